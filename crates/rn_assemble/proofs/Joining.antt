@@ -14,3 +14,5 @@ pub mod HeldStart
 pub mod SharedPatterns
 pub mod SameBodies
 pub mod FirstMembers
+pub mod DefinedKeys
+pub mod SettlingOrders

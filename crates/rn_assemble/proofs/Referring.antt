@@ -9,3 +9,6 @@ pub mod NumberedReferences
 pub mod NamedLists
 pub mod KeyNames
 pub mod LeastKeys
+pub mod MarkedPlaces
+pub mod KeyOrders
+pub mod DefinitionNumbers

@@ -24,6 +24,7 @@ pub mod Noting
 pub mod NumberRuns
 pub mod OneProof
 pub mod Patterns
+pub mod ReferenceOrder
 pub mod Referred
 pub mod RenamedModules
 pub mod SetFaults

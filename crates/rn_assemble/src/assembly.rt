@@ -12,6 +12,7 @@ ghost use Rattle.rn_assemble.specs.inside.Methods.{CanCombine, IsUncombined};
 ghost use Rattle.rn_assemble.specs.Refusal.{IsAssembled, Lacks};
 ghost use Rattle.rn_assemble.specs.Refused.{IsFirstRefusal};
 ghost use Rattle.rn_assemble.specs.ShortTexts.{IsShortened, short_texts};
+ghost use Rattle.rn_assemble.specs.inside.ReferenceOrder.{IsReferenceOrder};
 ghost use Rattle.rn_assemble.specs.inside.Sound.{HasSoundReferences, IsUnsound};
 ghost use Rattle.rn_assemble.specs.inside.Trees.{trees_by};
 ghost use Rattle.rn_assemble.specs.inside.Views.{AreInOrder, AreNamed, modules_view, names_of};
@@ -28,9 +29,10 @@ use crate::inclusion::included_roots;
 use crate::joined_definitions::joined_grammar;
 use crate::keys::{Keys, START};
 use crate::named_modules::{NamedModule, read_modules, split_items};
-use crate::references::{least_recursive, references_of};
+use crate::references::references_of;
 use crate::refusal::Refusal;
 use crate::seeds::seed_of;
+use crate::settling_order::{KeyOrder, SoundReferences, key_order, settling_order};
 use crate::short_uris::ShortUris;
 use crate::shortening::{short_uris_of, shorten_modules};
 use crate::trees::Trees;
@@ -165,8 +167,9 @@ fn combine_keys<'s>(
 {
     check_overrides(alloc, modules, keys, components.lack)?;
     check_methods(alloc, keys, components)?;
-    check_references(alloc, keys, components, trees)?;
-    combined_grammar(alloc, keys, components, trees)
+    let references = check_references(alloc, keys, components, trees)?;
+    let order = settling_order(alloc, keys, components, references)?;
+    combined_grammar(alloc, keys, components, trees, order)
 }
 
 /// `Override`, where there is a lack: an include of a module defines what the included module lacks (RELAX NG 2001,
@@ -218,22 +221,26 @@ fn check_methods(
     Ok(())
 }
 
-/// Refuses names that aren't defined, and reachable ones that come back to themselves outside elements
-/// (RELAX NG 2001, 4.18 and 4.19).
+/// The references of the keys, which are sound. Or the refusal of names that aren't defined, or of reachable ones that
+/// come back to themselves outside elements (RELAX NG 2001, 4.18 and 4.19).
 fn check_references<'s>(
     alloc: Global,
     keys: &Keys<'s>,
     components: &Components<'_, '_, 's>,
     trees: &Trees<'s>,
-) -> Result<(), Refusal>
+) -> Result<SoundReferences, Refusal>
     ensures { OfTrees keys.now (trees_by trees.now.trees.items) components.now
-        (λ names cs. MatchResult result (λ _. HasSoundReferences cs) (IsUnsound cs)) }
+        (λ names cs. MatchResult result (λ r. HasSoundReferences cs
+        × IsReferenceOrder names cs r.order.items) (IsUnsound cs)) }
 {
     let references = references_of(alloc, keys, components, trees)?;
-    if let Some(key) = least_recursive(alloc, &references)? {
-        return Err(Refusal::Recursive {
+    match key_order(alloc, &references)? {
+        KeyOrder::Ordered(order) => Ok(SoundReferences {
+            everywhere: references.everywhere,
+            order,
+        }),
+        KeyOrder::Recursive(key) => Err(Refusal::Recursive {
             name: String::from_str(alloc, keys.name(key))?,
-        });
+        }),
     }
-    Ok(())
 }

@@ -1,9 +1,12 @@
 // The combined patterns of a set, which stand without the trees of its modules.
 ghost use Rattle.rn_pattern.specs.View.{boxed_view};
 ghost use Rattle.rn_assemble.specs.Firsts.{joined_members};
+ghost use Rattle.rn_assemble.specs.SettlingOrder.{IsSettlingOrder};
+ghost use Rattle.rn_assemble.specs.inside.OneProof.{IsSettlingOrder-prop};
 ghost use Rattle.rn_assemble.specs.inside.CombinedDefinitions.{combined_definitions};
 ghost use Rattle.rn_assemble.specs.inside.Tied.{AreTied, HaveTied, AreTied-prop, HaveTied-prop, firsts_of};
 
+use crate::settling_order::SettlingOrder;
 use rn_pattern::Pattern;
 
 /// A name and its combined pattern.
@@ -11,7 +14,7 @@ use rn_pattern::Pattern;
 pub(crate) struct CombinedDefinition<'s> {
     /// The name, in the text of a module that defines it.
     pub name: &'s str,
-    pub pattern: Box<Pattern>,
+    pub pattern: Pattern,
 }
 
 /// The patterns of a set's keys. Where a body stands several times in the list of a key, the first places tell which
@@ -25,6 +28,12 @@ pub(crate) struct Combined<'s> {
     pub start_firsts: Vec<u32>,
     /// For each definition, and each member of it, the first member with its body.
     pub firsts: Vec<Vec<u32>>,
+    /// The order in which the definitions can be settled, and what they refer to.
+    pub order: SettlingOrder,
     ghost start_tied: { AreTied start_firsts.items (joined_members (boxed_view start)) } by { AreTied-prop _ _ },
     ghost tied: { HaveTied (firsts_of firsts.items) (combined_definitions definitions.items) } by { HaveTied-prop _ _ },
+    ghost in_order: { IsSettlingOrder (record {
+      start = boxed_view start;
+      definitions = combined_definitions definitions.items;
+    }) order.numbers.items } by { IsSettlingOrder-prop _ _ },
 }

@@ -5,7 +5,7 @@ ghost use Rattle.rn_text.specs.Texts.{Text, text_cmp};
 ghost use Rattle.rn_assemble.specs.Components.{has_key, start_key};
 ghost use Rattle.rn_assemble.specs.inside.CombinedDefinitions.{AreDefinitions};
 ghost use Rattle.rn_assemble.specs.inside.Tied.{HasRow, firsts_of};
-ghost use Rattle.rn_assemble.specs.inside.Joining.{HasStart, IsCombinedGrammar, IsMisnamed};
+ghost use Rattle.rn_assemble.specs.inside.Joining.{CanBeSettled, IsCombinedGrammar, IsMisnamed};
 ghost use Rattle.rn_assemble.specs.inside.Listed.{Lists, Live, OfTrees};
 ghost use Rattle.rn_assemble.specs.inside.Trees.{TreeView, trees_by};
 ghost use Rattle.rn_assemble.specs.inside.Patterns.{AfterStart, IsFirstAt};
@@ -17,18 +17,21 @@ use crate::components::{Components, Near};
 use crate::firsts::Met;
 use crate::keys::{Keys, START};
 use crate::refusal::Refusal;
+use crate::settling_order::SettlingOrder;
 use crate::trees::Trees;
 use std::alloc::{AllocError, Global};
 
 /// The combined patterns of all keys, those of names in the order of each one's first component. The tree of each
-/// component is given up once it was resolved.
+/// component is given up once it was resolved. The order in which they can be settled is given.
 pub(crate) fn combined_grammar<'s>(
     alloc: Global,
     keys: &Keys<'s>,
     components: &Components<'_, '_, '_>,
     trees: &mut Trees<'_>,
+    order: SettlingOrder,
 ) -> Result<Combined<'s>, Refusal>
-    requires { HasStart (names_of keys.now) (trees_by trees.old.trees.items) components.now }
+    requires { CanBeSettled (names_of keys.now) (trees_by trees.old.trees.items) components.now
+        order.numbers.items }
     ensures { OfTrees keys.now (trees_by trees.old.trees.items) components.now
         (λ names cs. has_key start_key cs ≡ true
         → MatchResult result (IsCombinedGrammar cs) (IsMisnamed cs)) }
@@ -52,6 +55,7 @@ pub(crate) fn combined_grammar<'s>(
         definitions,
         start_firsts,
         firsts,
+        order,
     })
 }
 
@@ -80,6 +84,7 @@ fn definitions<'s>(
                 let found = components.firsts(alloc, key, met)?;
                 keep_row(alloc, &mut firsts, definitions.len(), found)?;
                 let name = keys.name(key);
+                let pattern = Box::into_inner(pattern);
                 definitions.push(CombinedDefinition { name, pattern })?;
             }
         }
@@ -112,7 +117,7 @@ fn keep_row(
 
 impl<'c, 't, 's> Components<'c, 't, 's> {
     /// The number of the name whose first component is at that place.
-    fn first_at(&self, place: usize, near: &mut Near) -> Option<usize>
+    pub fn first_at(&self, place: usize, near: &mut Near) -> Option<usize>
         ensures { (trees : TreeView) (names : List Text) (live : List Live)
             → Lists names trees self.now live
             → IsStrictlySortedBy text_cmp names → IsFirstAt names live place result }

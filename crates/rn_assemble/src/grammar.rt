@@ -4,6 +4,7 @@ ghost use Rattle.rn_assemble.specs.inside.OneProof.{IsWellFormed-prop};
 ghost use Rattle.rn_assemble.specs.WellFormed.{IsWellFormed, HasWritableTexts};
 
 use crate::joined_grammar::{Definitions, Joined};
+use crate::likely_references::LikelyReferences;
 use rn_pattern::Pattern;
 
 /// The combined definitions of a set, for which none of the refusals of a set stands. So every reference is defined, no
@@ -28,6 +29,8 @@ pub struct GrammarParts {
     /// Of each definition by its number, and each of its members, the index of the first member that is the same body
     /// (`Grammar::firsts`). Definitions behind the last list have none.
     pub firsts: Vec<Vec<u32>>,
+    /// Where to look first for what is referred to (`Grammar::likely_references`).
+    pub likely: LikelyReferences,
 }
 
 impl Grammar {
@@ -37,6 +40,7 @@ impl Grammar {
     ghost use Rattle.rn_pattern.specs.View.{pattern_view};
     ghost use Rattle.rn_assemble.specs.Firsts.{AreFirsts, HaveFirsts, joined_members};
     ghost use Rattle.rn_assemble.specs.GrammarView.{definitions_view, grammar_view};
+    ghost use Rattle.rn_assemble.specs.SettlingOrder.{IsSettlingOrder};
 
     /// The start pattern.
     pub fn start(&self) -> &Pattern
@@ -76,6 +80,19 @@ impl Grammar {
         }
     }
 
+    /// The numbers of the definitions that the start reaches, in the order of `defs`, each once, and each behind those that
+    /// its definition refers to outside elements (RELAX NG 2001, 4.19). So definitions can be settled in it.
+    pub fn settling_order(&self) -> &[usize]
+        ensures { IsSettlingOrder (grammar_view self.now) result.now }
+    {
+        self.joined.order.numbers.as_slice()
+    }
+
+    /// Where to look first for the definitions that the grammar refers to. No answer rests on it.
+    pub fn likely_references(&self) -> &LikelyReferences {
+        &self.joined.order.likely
+    }
+
     /// The parts of the grammar, which is taken apart.
     pub fn into_parts(self) -> GrammarParts
         ensures start { pattern_view result.start ≡ (grammar_view self).start }
@@ -90,12 +107,14 @@ impl Grammar {
             defs,
             start_firsts,
             firsts,
+            order,
         } = self.joined;
         GrammarParts {
             start,
             definitions: defs,
             start_firsts,
             firsts,
+            likely: order.likely,
         }
     }
 }

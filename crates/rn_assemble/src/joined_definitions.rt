@@ -3,7 +3,7 @@ ghost use Rattle.std.specs.Prelude.{◌≡◌, ◌∷◌, ◌++◌, [], false, b
 ghost use Rattle.std.specs.List.{list_any};
 ghost use Rattle.rn_pattern.specs.Tree.{Tree};
 ghost use Rattle.rn_text.specs.Texts.{Text};
-ghost use Rattle.rn_pattern.specs.View.{boxed_view};
+ghost use Rattle.rn_pattern.specs.View.{pattern_view};
 ghost use Rattle.rn_assemble.specs.Combine.{AreDistinct};
 ghost use Rattle.rn_assemble.specs.DefinitionsView.{definitions_view};
 ghost use Rattle.rn_assemble.specs.JoinedView.{joined_view};
@@ -29,6 +29,7 @@ pub(crate) fn joined_grammar(
         definitions,
         start_firsts,
         firsts,
+        order,
     } = combined;
     let defs = definitions_of(alloc, definitions, seed)?;
     Ok(Joined {
@@ -36,6 +37,7 @@ pub(crate) fn joined_grammar(
         defs,
         start_firsts,
         firsts,
+        order,
     })
 }
 
@@ -65,10 +67,10 @@ fn define(
     ensures { OnOk result (list_any (bytes_eq definition.entry.name.now)
         (map (λ (d : Text × Tree). d.0) (definitions_view defs.old.entries)) ≡ false
         → definitions_view defs.new.entries ≡ definitions_view defs.old.entries
-        ++ (definition.entry.name.now, boxed_view definition.entry.pattern) ∷ []) }
+        ++ (definition.entry.name.now, pattern_view definition.entry.pattern) ∷ []) }
 {
     let CombinedDefinition { name, pattern } = definition;
     let name = String::from_str(alloc, name)?;
-    defs.insert(name, Box::into_inner(pattern))?;
+    defs.insert(name, pattern)?;
     Ok(())
 }

@@ -1,4 +1,4 @@
-// References, what is reached by them, and loops.
+// The references of the keys.
 ghost use Rattle.std.specs.Prelude.{◌≡◌, ◌+◌, ◌<◌, List, [], ◌∷◌, length, ◌++◌, vec_len, map, option_map, is_some, MatchResult, IfOk, OnOk};
 ghost use Rattle.std.specs.List.Sorted.{IsStrictlySortedBy};
 ghost use Rattle.rn_text.specs.Texts.{Text, text_cmp};
@@ -11,7 +11,7 @@ ghost use Rattle.rn_assemble.specs.Combine.{joined_grammar};
 ghost use Rattle.rn_assemble.specs.Least.{IsLeast};
 ghost use Rattle.rn_pattern.specs.declared.references.Reach.TheVariants.{Everywhere, OutsideElements};
 ghost use Rattle.rn_assemble.specs.inside.Keyed.{IsFound};
-ghost use Rattle.rn_assemble.specs.inside.Referred.{AreAllReferences, AreBodiesAt, AreNumbers, IsFresh, IsLeastRecursive, IsLeastUndefined, IsLooked, KeepsLeast, all_references, lesser_text, names_within, number_within, reference_view, references, references_in, tree_of};
+ghost use Rattle.rn_assemble.specs.inside.Referred.{AreAllReferences, AreBodiesAt, AreNumbers, IsFresh, IsLeastUndefined, IsLooked, KeepsLeast, all_references, lesser_text, names_within, number_within, reference_view, references, references_in, tree_of};
 ghost use Rattle.rn_assemble.specs.inside.Views.{names_of};
 ghost use Rattle.rn_pattern.specs.Matching.{definition_of};
 ghost use Rattle.rn_pattern.specs.Graph.{AllBelow, IsGraph, row, rows_of};
@@ -19,11 +19,9 @@ ghost use Rattle.rn_assemble.specs.inside.Listed.{Lists, Live, OfTrees, componen
 ghost use Rattle.rn_assemble.specs.inside.Trees.{TreeView, trees_by};
 
 use crate::components::{Components, Near};
-use crate::keys::{Keys, START};
+use crate::keys::Keys;
 use crate::refusal::Refusal;
 use crate::trees::Trees;
-use rn_pattern::graph::{marked_rows, reached_nodes};
-use rn_pattern::ranks::least_looped;
 use rn_pattern::{NodeReferences, Reach, ReferenceRows};
 use rn_syntax::Pat;
 use std::alloc::{AllocError, Global};
@@ -278,24 +276,4 @@ pub(crate) fn lesser_name<'s>(held: Option<&'s str>, other: &'s str) -> &'s str
         return other;
     };
     if other < held { other } else { held }
-}
-
-/// The least key that start reaches and that comes back to itself by references outside elements.
-pub(crate) fn least_recursive(
-    alloc: Global,
-    references: &ReferenceRows,
-) -> Result<Option<usize>, AllocError>
-    requires everywhere { IsGraph (rows_of references.now.everywhere) }
-    requires some { 0 < length (rows_of references.now.everywhere) }
-    requires outside { IsGraph (rows_of references.now.outside) }
-    requires size { length (rows_of references.now.outside)
-        ≡ length (rows_of references.now.everywhere) }
-    ensures { (names : List Text) (cs : List Component) → IsStrictlySortedBy text_cmp names
-        → AreAllReferences names cs (rows_of references.now.everywhere)
-        (rows_of references.now.outside) → IfOk result (IsLeastRecursive names cs) }
-{
-    let first = references.everywhere.row(START);
-    let reached = reached_nodes(alloc, &references.everywhere, first)?;
-    let outside = marked_rows(alloc, &references.outside, reached.as_slice())?;
-    least_looped(alloc, &outside)
 }

@@ -11,10 +11,8 @@ pub mod ReferredIn
 pub mod DefinitionNumbers
 pub mod Marks
 pub mod NumberedNames
-pub mod AddedNumbers
 pub mod StoreIds
 pub mod PrunedForms
-pub mod AlikeRows
 pub mod Repeats
 pub mod MarkedElements
 pub mod Forms

@@ -6,7 +6,6 @@ pub mod Gathers
 pub mod ListParts
 pub mod MarkedElements
 pub mod NodeKinds
-pub mod ReferenceNumbers
 pub mod ReferredNames
 pub mod Repeats
 pub mod SettlingOrder

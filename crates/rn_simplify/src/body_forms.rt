@@ -9,9 +9,9 @@ ghost use Rattle.rn_simplify.specs.inside.FormKinds.{settled_form};
 ghost use Rattle.rn_simplify.specs.inside.Repeats.{AreFirstsOf};
 
 use crate::definition_numbers::Likely;
+use crate::definitions::{body_of, name_of};
 use crate::normalising::stored_body_form;
 use crate::settled_definitions::SettledDefinitions;
-use crate::settling::{body_of, name_of};
 use crate::tree_forms::tree_form;
 use rn_assemble::Grammar;
 use rn_pattern::{Interned, Pattern};
@@ -55,7 +55,7 @@ pub(crate) fn definition_forms(
     for number in 0..settled.definitions.len() {
         let name = name_of(settled.definitions, number).clone()?;
         let body = body_of(settled.definitions, number);
-        let mut likely = settled.found.of_definition(number);
+        let mut likely = Likely::of(settled.likely.of_definition(number));
         let form = body_form(alloc, settled, &mut likely, body, grammar.firsts(number))?;
         forms.push((name, form))?;
     }

@@ -3,52 +3,25 @@ ghost use Rattle.std.specs.Prelude.{◌≡◌, ◌<◌, IfSome, IsTrue, Some, le
 ghost use Rattle.rn_assemble.specs.GrammarView.{definitions_view};
 ghost use Rattle.rn_simplify.specs.inside.DefinitionNumbers.{number_of};
 
-use crate::settling::name_of;
+use crate::definitions::name_of;
 use rn_assemble::Definitions;
-use rn_pattern::Rows;
 
 /// The most numbers that are looked through one by one: of two names mostly the lengths or the last bytes differ, while
 /// a hash takes all bytes.
 const FEW_NUMBERS: usize = 8;
 
-/// The numbers of the definitions that a grammar refers to, as they were found once: where to look first when the same
-/// references are looked up again. No answer rests on them, so no clause speaks of them: a wrong number costs time.
-#[derive(Drop)]
-pub(crate) struct FoundReferences {
-    /// The numbers that each of all definitions refers to, by its number.
-    pub(crate) definitions: Rows,
-    /// The numbers that the start refers to.
-    pub(crate) start: Vec<usize>,
-}
-
-impl FoundReferences {
-    /// The numbers that the definition with a number is likely to refer to.
-    pub(crate) fn of_definition(&self, number: usize) -> Likely<'_> {
-        if number < self.definitions.len() {
-            Likely::of(self.definitions.row(number))
-        } else {
-            Likely::of(&[])
-        }
-    }
-
-    /// The numbers that the start is likely to refer to.
-    pub(crate) fn of_start(&self) -> Likely<'_> {
-        Likely::of(&self.start)
-    }
-}
-
 /// Numbers of definitions that a pattern is likely to refer to, in the order of its references. No answer rests on
 /// them.
 #[derive(Drop)]
 pub(crate) struct Likely<'r> {
-    numbers: &'r [usize],
+    numbers: &'r [u32],
     /// The place of the number that is tried first.
     next: usize,
 }
 
 impl<'r> Likely<'r> {
     /// These numbers, of which the first one is tried first.
-    pub(crate) fn of(numbers: &'r [usize]) -> Likely<'r> {
+    pub(crate) fn of(numbers: &'r [u32]) -> Likely<'r> {
         Likely { numbers, next: 0 }
     }
 }
@@ -84,7 +57,7 @@ fn find_next(definitions: &Definitions, likely: &mut Likely<'_>, name: &str) -> 
     ensures { IfSome result
         (λ k. number_of (definitions_view definitions.now.entries) name.now ≡ Some k) }
 {
-    let number = *likely.numbers.get(likely.next)?;
+    let number = *likely.numbers.get(likely.next)? as usize;
     if !is_named(definitions, number, name) {
         return None;
     }
@@ -93,7 +66,7 @@ fn find_next(definitions: &Definitions, likely: &mut Likely<'_>, name: &str) -> 
 }
 
 /// The one of a few numbers whose definition has the name.
-fn find_among(definitions: &Definitions, numbers: &[usize], name: &str) -> Option<usize>
+fn find_among(definitions: &Definitions, numbers: &[u32], name: &str) -> Option<usize>
     ensures { IfSome result
         (λ k. number_of (definitions_view definitions.now.entries) name.now ≡ Some k) }
 {
@@ -101,8 +74,9 @@ fn find_among(definitions: &Definitions, numbers: &[usize], name: &str) -> Optio
         return None;
     }
     for number in numbers {
-        if is_named(definitions, *number, name) {
-            return Some(*number);
+        let number = *number as usize;
+        if is_named(definitions, number, name) {
+            return Some(number);
         }
     }
     None

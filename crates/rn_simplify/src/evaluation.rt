@@ -11,11 +11,11 @@ ghost use Rattle.rn_simplify.specs.inside.SettlingOrder.{IsInOrder};
 ghost use Rattle.rn_simplify.specs.inside.FormKinds.{becomes, tree_kind, group_kind, choice_kind, becomes_by, kind_in, kind_of, settled_form};
 ghost use Rattle.rn_simplify.specs.inside.Repeats.{AreFirstsOf};
 
-use crate::definition_numbers::{FoundReferences, Likely};
+use crate::definition_numbers::Likely;
+use crate::definitions::body_of;
 use crate::form_kind::FormKind;
 use crate::repeated_members::without_repeats;
 use crate::settled_definitions::SettledDefinitions;
-use crate::settling::{body_of, settling_order};
 use rn_assemble::Grammar;
 use rn_pattern::Pattern;
 use std::alloc::{AllocError, Global};
@@ -31,9 +31,7 @@ pub(crate) fn settle_all(
     ensures exact { IfOk result (λ s. (rank : Text → ℕ) × IsSettling (grammar_view grammar.now)
         (becomes s) rank) }
 {
-    let order = settling_order(alloc, grammar)?;
-    let found = order.found;
-    settle(alloc, grammar, &order.numbers, found)
+    settle(alloc, grammar, grammar.settling_order())
 }
 
 /// What the references to the definitions become, settled in an order in which each definition comes after those that
@@ -42,7 +40,6 @@ fn settle<'g>(
     alloc: Global,
     grammar: &'g Grammar,
     order: &[usize],
-    found: FoundReferences,
 ) -> Result<SettledDefinitions<'g>, AllocError>
     requires { AllBelow (length (grammar_view grammar.now).definitions) order.now }
     ensures definitions { IfOk result (λ s. definitions_view s.definitions.now.entries
@@ -56,7 +53,7 @@ fn settle<'g>(
     let mut settled = SettledDefinitions {
         definitions,
         kinds,
-        found,
+        likely: grammar.likely_references(),
     };
     for number in order {
         settle_definition(alloc, grammar, *number, &mut settled)?;
@@ -81,7 +78,7 @@ fn settle_definition(
         (slice_index_or (definitions_view settled.old.definitions.now.entries) number d).1))) }
 {
     let body = body_of(settled.definitions, number);
-    let mut likely = settled.found.of_definition(number);
+    let mut likely = Likely::of(settled.likely.of_definition(number));
     let kind = evaluate_body(alloc, settled, &mut likely, body, grammar.firsts(number))?;
     settled.kinds[number] = kind;
     Ok(())

@@ -1,74 +1,93 @@
 // Canonical forms in the place of the bodies that they are made of, so that no two definitions have both.
-ghost use Rattle.std.specs.Prelude.{◌≡◌, ◌<◌, ℕ, IfOk, length, map, slice_index_or};
+ghost use Rattle.std.specs.Prelude.{◌≡◌, ◌<◌, ◌++◌, ◌∷◌, [], ℕ, IfOk, OnOk, length, map, slice_index_or};
 ghost use Rattle.rn_assemble.specs.Firsts.{AreFirsts, HaveFirsts, joined_members};
 ghost use Rattle.rn_assemble.specs.GrammarView.{definitions_view, grammar_view};
 ghost use Rattle.rn_pattern.specs.Canonical.{canonical};
-ghost use Rattle.rn_pattern.specs.Graph.{row};
+ghost use Rattle.rn_pattern.specs.Graph.{row, rows_of};
 ghost use Rattle.rn_pattern.specs.Tree.{Tree};
 ghost use Rattle.rn_text.specs.Texts.{Text};
 ghost use Rattle.rn_pattern.specs.View.{pattern_view};
 ghost use Rattle.rn_simplify.specs.Settling.{IsSettling};
+ghost use Rattle.rn_simplify.specs.inside.DefinitionNumbers.{reference_numbers, rows_by};
 ghost use Rattle.rn_simplify.specs.inside.FormKinds.{becomes_by, settled_definitions};
 
 use crate::body_forms::body_form;
-use crate::definition_numbers::FoundReferences;
+use crate::definition_numbers::Likely;
+use crate::definitions::body_of;
 use crate::evaluation::settle_all;
 use crate::form_kind::FormKind;
+use crate::reference_numbers::referred_numbers;
 use crate::settled_definitions::SettledDefinitions;
-use crate::settling::body_of;
-use rn_assemble::{Definitions, Grammar};
-use rn_pattern::Pattern;
+use rn_assemble::{Definitions, Grammar, LikelyReferences};
+use rn_pattern::{Pattern, Rows};
 use std::alloc::{AllocError, Global};
 
-/// What the references to definitions become, without the definitions themselves.
-#[derive(Drop)]
-pub(crate) struct SettledKinds {
-    /// The kind of the form of each definition, by its number.
-    pub(crate) kinds: Vec<FormKind>,
-    /// Where to look first for what a reference is to.
-    pub(crate) found: FoundReferences,
-}
-
-/// The form of the start, and what the references to the definitions become.
+/// The form of the start, and the kind of the form of each definition, by its number.
 pub(crate) fn settled_start(
     alloc: Global,
     grammar: &Grammar,
-) -> Result<(Pattern, SettledKinds), AllocError>
-    ensures sized { IfOk result (λ r. length r.1.kinds.items
+) -> Result<(Pattern, Vec<FormKind>), AllocError>
+    ensures sized { IfOk result (λ r. length r.1.items
         ≡ length (grammar_view grammar.now).definitions) }
     ensures exact { IfOk result (λ r. (rank : Text → ℕ) × IsSettling (grammar_view grammar.now)
-        (becomes_by (grammar_view grammar.now).definitions r.1.kinds.items) rank) }
+        (becomes_by (grammar_view grammar.now).definitions r.1.items) rank) }
     ensures start { IfOk result (λ r. pattern_view r.0
-        ≡ canonical (becomes_by (grammar_view grammar.now).definitions r.1.kinds.items)
+        ≡ canonical (becomes_by (grammar_view grammar.now).definitions r.1.items)
         (grammar_view grammar.now).start) }
 {
     let settled = settle_all(alloc, grammar)?;
     let firsts = grammar.start_firsts();
-    let mut likely = settled.found.of_start();
+    let mut likely = Likely::of(settled.likely.of_start());
     let form = body_form(alloc, &settled, &mut likely, grammar.start(), firsts)?;
-    let SettledDefinitions { kinds, found, .. } = settled;
-    Ok((form, SettledKinds { kinds, found }))
+    Ok((form, settled.kinds))
 }
 
-/// Puts the form of each definition in the place of its body, which is given up as soon as the form is made.
+/// Puts the form of each definition in the place of its body, which is given up as soon as the form is made. Answers the
+/// definitions that each form refers to, which are found as soon as it is made.
 pub(crate) fn form_definitions(
     alloc: Global,
     definitions: &mut Definitions,
-    mut settled: SettledKinds,
+    likely: &LikelyReferences,
+    mut kinds: Vec<FormKind>,
     firsts: &[Vec<u32>],
-) -> Result<SettledKinds, AllocError>
-    requires sized { length settled.kinds.items ≡ length definitions.old.entries }
+) -> Result<Rows, AllocError>
+    requires sized { length kinds.items ≡ length definitions.old.entries }
     requires firsts { HaveFirsts firsts.now (definitions_view definitions.old.entries) }
-    ensures { IfOk result (λ _. definitions_view definitions.new.entries
-        ≡ settled_definitions (definitions_view definitions.old.entries) settled.kinds.items) }
+    ensures formed { IfOk result (λ _. definitions_view definitions.new.entries
+        ≡ settled_definitions (definitions_view definitions.old.entries) kinds.items) }
+    ensures rows { IfOk result (λ rows. rows_of rows
+        ≡ rows_by (definitions_view definitions.new.entries)
+        (definitions_view definitions.new.entries)) }
 {
+    let mut rows = Rows::with_capacity(alloc, definitions.len())?;
+    let mut row = Vec::new(alloc);
     for number in 0..definitions.len() {
         let first_members = firsts_at(firsts, number);
-        let (form, kept) = form_at(alloc, definitions, settled, number, first_members)?;
+        let (form, kept) = form_at(alloc, definitions, likely, kinds, number, first_members)?;
         definitions[number] = form;
-        settled = kept;
+        kinds = kept;
+        push_references(definitions, likely, number, &mut row, &mut rows)?;
     }
-    Ok(settled)
+    Ok(rows)
+}
+
+/// Adds the row of the definitions that the one with a number refers to. What `row` held is lost.
+fn push_references(
+    definitions: &Definitions,
+    likely: &LikelyReferences,
+    number: usize,
+    row: &mut Vec<usize>,
+    rows: &mut Rows,
+) -> Result<(), AllocError>
+    requires { number < length definitions.now.entries }
+    ensures { OnOk result ((d : Text × Tree) → rows_of rows.new ≡ rows_of rows.old
+        ++ reference_numbers (definitions_view definitions.now.entries)
+        (slice_index_or (definitions_view definitions.now.entries) number d).1 ∷ []) }
+{
+    let mut numbers = Likely::of(likely.of_definition(number));
+    let body = body_of(definitions, number);
+    referred_numbers(row, definitions, &mut numbers, body)?;
+    rows.push_row(row)
 }
 
 /// The first places of the members of the definition with a number.
@@ -81,32 +100,31 @@ fn firsts_at(firsts: &[Vec<u32>], number: usize) -> &[u32]
     }
 }
 
-/// The form of the definition with a number. What references become is handed back with it.
+/// The form of the definition with a number. The kinds are handed back with it.
 fn form_at(
     alloc: Global,
     definitions: &Definitions,
-    settled: SettledKinds,
+    likely: &LikelyReferences,
+    kinds: Vec<FormKind>,
     number: usize,
     firsts: &[u32],
-) -> Result<(Pattern, SettledKinds), AllocError>
+) -> Result<(Pattern, Vec<FormKind>), AllocError>
     requires within { number < length definitions.now.entries }
-    requires sized { length settled.kinds.items ≡ length definitions.now.entries }
+    requires sized { length kinds.items ≡ length definitions.now.entries }
     requires firsts { (d : Text × Tree) → AreFirsts firsts.now (joined_members
         (slice_index_or (definitions_view definitions.now.entries) number d).1) }
     ensures made { IfOk result (λ r. (d : Text × Tree) → pattern_view r.0
-        ≡ canonical (becomes_by (definitions_view definitions.now.entries) settled.kinds.items)
+        ≡ canonical (becomes_by (definitions_view definitions.now.entries) kinds.items)
         (slice_index_or (definitions_view definitions.now.entries) number d).1) }
-    ensures kept { IfOk result (λ r. r.1.kinds.items ≡ settled.kinds.items) }
+    ensures kept { IfOk result (λ r. r.1.items ≡ kinds.items) }
 {
-    let SettledKinds { kinds, found } = settled;
     let settled = SettledDefinitions {
         definitions,
         kinds,
-        found,
+        likely,
     };
-    let mut likely = settled.found.of_definition(number);
+    let mut numbers = Likely::of(likely.of_definition(number));
     let body = body_of(definitions, number);
-    let form = body_form(alloc, &settled, &mut likely, body, firsts)?;
-    let SettledDefinitions { kinds, found, .. } = settled;
-    Ok((form, SettledKinds { kinds, found }))
+    let form = body_form(alloc, &settled, &mut numbers, body, firsts)?;
+    Ok((form, settled.kinds))
 }

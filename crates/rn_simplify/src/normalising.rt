@@ -15,6 +15,8 @@ ghost use Rattle.rn_simplify.specs.inside.FormKinds.{settled_form};
 ghost use Rattle.rn_simplify.specs.inside.Repeats.{AreFirstsOf};
 
 use crate::body_forms::{body_form, definition_forms};
+use crate::definition_numbers::Likely;
+use crate::definitions::{body_of, name_of};
 use crate::evaluation::settle_all;
 use crate::forms_in_place::{form_definitions, settled_start};
 use crate::joined_bodies::canonical_body;
@@ -22,7 +24,6 @@ use crate::normal::Normal;
 use crate::reachable::{prune_forms, prune_map};
 use crate::rebuilding::rebuild;
 use crate::settled_definitions::SettledDefinitions;
-use crate::settling::{body_of, name_of};
 use rn_assemble::{Grammar, GrammarParts};
 use rn_pattern::{Pattern, Patterns};
 use std::alloc::{AllocError, Global};
@@ -116,7 +117,7 @@ fn canonical_parts(alloc: Global, grammar: &Grammar) -> Result<NormalParts, Allo
     let start = body_form(
         alloc,
         &settled,
-        &mut settled.found.of_start(),
+        &mut Likely::of(settled.likely.of_start()),
         grammar.start(),
         grammar.start_firsts(),
     )?;
@@ -130,14 +131,15 @@ fn parts_in_place(alloc: Global, grammar: Grammar) -> Result<NormalParts, AllocE
     ensures { IfOk result (λ parts. IsCanonicalOf (grammar_view grammar)
         (parts_view parts.0 parts.1.items)) }
 {
-    let (start, settled) = settled_start(alloc, &grammar)?;
+    let (start, kinds) = settled_start(alloc, &grammar)?;
     let GrammarParts {
         mut definitions,
         firsts,
+        likely,
         ..
     } = grammar.into_parts();
-    let settled = form_definitions(alloc, &mut definitions, settled, &firsts)?;
-    let defs = prune_map(alloc, &settled.found, &start, definitions)?;
+    let rows = form_definitions(alloc, &mut definitions, &likely, kinds, &firsts)?;
+    let defs = prune_map(alloc, &likely, &start, definitions, &rows)?;
     Ok((start, defs))
 }
 

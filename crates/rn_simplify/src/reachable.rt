@@ -8,17 +8,14 @@ ghost use Rattle.rn_pattern.specs.Reached.{IsPruned};
 ghost use Rattle.rn_pattern.specs.Tree.{Tree};
 ghost use Rattle.rn_pattern.specs.View.{pattern_view};
 ghost use Rattle.rn_simplify.specs.inside.MarkedElements.{marked_elements};
-ghost use Rattle.rn_simplify.specs.inside.DefinitionNumbers.{MarksReached, rows_by};
-ghost use Rattle.rn_simplify.specs.inside.ReferenceNumbers.{reference_numbers};
-ghost use Rattle.rn_pattern.specs.declared.references.Reach.TheVariants.{Everywhere};
+ghost use Rattle.rn_simplify.specs.inside.DefinitionNumbers.{MarksReached, reference_numbers, rows_by};
 
-use crate::definition_numbers::FoundReferences;
+use crate::definition_numbers::Likely;
 use crate::reference_numbers::referred_numbers;
 use crate::settled_definitions::SettledDefinitions;
-use crate::settling::body_of;
-use rn_assemble::Definitions;
+use rn_assemble::{Definitions, LikelyReferences};
 use rn_pattern::graph::reached_nodes;
-use rn_pattern::{NodeReferences, Pattern, Rows};
+use rn_pattern::{Pattern, Rows};
 use std::alloc::{AllocError, Global};
 
 /// The forms that the start reaches, in the order of their names. The forms have the names of the definitions, in their
@@ -40,13 +37,17 @@ pub(crate) fn prune_forms(
     sorted_marked(forms, &is_reached)
 }
 
-/// The forms in the map that the start reaches, in the order of their names.
+/// The forms in the map that the start reaches, in the order of their names. The definitions that each form refers to
+/// are given.
 pub(crate) fn prune_map(
     alloc: Global,
-    found: &FoundReferences,
+    likely: &LikelyReferences,
     start: &Pattern,
     definitions: Definitions,
+    rows: &Rows,
 ) -> Result<Vec<(String, Pattern)>, AllocError>
+    requires { rows_of rows.now ≡ rows_by (definitions_view definitions.entries)
+        (definitions_view definitions.entries) }
     ensures { IfOk result (λ v. IsPruned
         (record {
           start = pattern_view start.now;
@@ -54,7 +55,7 @@ pub(crate) fn prune_map(
         })
         (record { start = pattern_view start.now; definitions = definitions_view v.items })) }
 {
-    let is_reached = reached_in_map(alloc, found, start, &definitions)?;
+    let is_reached = reached_in_map(alloc, likely, start, &definitions, rows)?;
     let forms = entries_of(alloc, definitions)?;
     sorted_marked(forms, &is_reached)
 }
@@ -89,55 +90,37 @@ fn sorted_marked(
 /// For each form in the map, whether the start reaches it.
 fn reached_in_map(
     alloc: Global,
-    found: &FoundReferences,
+    likely: &LikelyReferences,
     start: &Pattern,
     definitions: &Definitions,
+    rows: &Rows,
 ) -> Result<Vec<bool>, AllocError>
+    requires { rows_of rows.now ≡ rows_by (definitions_view definitions.now.entries)
+        (definitions_view definitions.now.entries) }
     ensures { IfOk result
         (λ marks. MarksReached (record {
           start = pattern_view start.now;
           definitions = definitions_view definitions.now.entries;
         }) marks.items) }
 {
-    let rows = rows_of_map(alloc, found, definitions)?;
-    let first = start_numbers(alloc, definitions, found, start)?;
-    reached_nodes(alloc, &rows, &first)
+    let first = start_numbers(alloc, definitions, likely, start)?;
+    reached_nodes(alloc, rows, &first)
 }
 
 /// The definitions that the form of the start refers to.
 fn start_numbers(
     alloc: Global,
     definitions: &Definitions,
-    found: &FoundReferences,
+    likely: &LikelyReferences,
     start: &Pattern,
 ) -> Result<Vec<usize>, AllocError>
     ensures { IfOk result (λ v. v.items ≡ reference_numbers
-        (definitions_view definitions.now.entries) (pattern_view start.now) Everywhere) }
+        (definitions_view definitions.now.entries) (pattern_view start.now)) }
 {
-    let mut numbers = NodeReferences::new(alloc);
-    referred_numbers(&mut numbers, definitions, &mut found.of_start(), start)?;
-    Ok(numbers.everywhere)
-}
-
-/// The references of each form in the map.
-fn rows_of_map(
-    alloc: Global,
-    found: &FoundReferences,
-    definitions: &Definitions,
-) -> Result<Rows, AllocError>
-    ensures { IfOk result (λ rows. rows_of rows
-        ≡ rows_by Everywhere (definitions_view definitions.now.entries)
-        (definitions_view definitions.now.entries)) }
-{
-    let mut rows = Rows::with_capacity(alloc, definitions.len())?;
-    let mut row = NodeReferences::new(alloc);
-    for number in 0..definitions.len() {
-        let mut likely = found.of_definition(number);
-        let form = body_of(definitions, number);
-        referred_numbers(&mut row, definitions, &mut likely, form)?;
-        rows.push_row(&row.everywhere)?;
-    }
-    Ok(rows)
+    let mut found = Vec::new(alloc);
+    let mut numbers = Likely::of(likely.of_start());
+    referred_numbers(&mut found, definitions, &mut numbers, start)?;
+    Ok(found)
 }
 
 /// For each form, whether the start reaches it.
@@ -157,7 +140,7 @@ fn reached_forms(
         }) marks.items) }
 {
     let rows = rows_of_forms(alloc, settled, forms)?;
-    let first = start_numbers(alloc, settled.definitions, &settled.found, start)?;
+    let first = start_numbers(alloc, settled.definitions, settled.likely, start)?;
     reached_nodes(alloc, &rows, &first)
 }
 
@@ -168,15 +151,15 @@ fn rows_of_forms(
     forms: &[(String, Pattern)],
 ) -> Result<Rows, AllocError>
     ensures { IfOk result (λ rows. rows_of rows
-        ≡ rows_by Everywhere (definitions_view settled.now.definitions.now.entries)
+        ≡ rows_by (definitions_view settled.now.definitions.now.entries)
         (definitions_view forms.now)) }
 {
     let mut rows = Rows::with_capacity(alloc, forms.len())?;
-    let mut row = NodeReferences::new(alloc);
+    let mut row = Vec::new(alloc);
     for (_, form) in forms {
-        let mut likely = settled.found.of_definition(rows.len());
-        referred_numbers(&mut row, settled.definitions, &mut likely, form)?;
-        rows.push_row(&row.everywhere)?;
+        let mut numbers = Likely::of(settled.likely.of_definition(rows.len()));
+        referred_numbers(&mut row, settled.definitions, &mut numbers, form)?;
+        rows.push_row(&row)?;
     }
     Ok(rows)
 }

@@ -1,9 +1,9 @@
 // What the references to the definitions of a grammar become.
 ghost use Rattle.std.specs.Prelude.{◌≡◌, length};
 
-use crate::definition_numbers::{FoundReferences, Likely, find_number};
+use crate::definition_numbers::{Likely, find_number};
 use crate::form_kind::FormKind;
-use rn_assemble::Definitions;
+use rn_assemble::{Definitions, LikelyReferences};
 
 /// What the references to the definitions of a grammar become.
 #[derive(Drop)]
@@ -12,7 +12,7 @@ pub(crate) struct SettledDefinitions<'g> {
     /// The kind of the form of each definition, by its number.
     pub(crate) kinds: Vec<FormKind>,
     /// Where to look first for what a reference is to.
-    pub(crate) found: FoundReferences,
+    pub(crate) likely: &'g LikelyReferences,
     ghost sized: { length kinds.items ≡ length definitions.now.entries },
 }
 

@@ -18,13 +18,15 @@ use Rattle.rn_assemble.specs.inside.Contained.{AreFlat}
 use Rattle.rn_assemble.specs.inside.Expanded.{IsListed, name_at}
 use Rattle.rn_assemble.specs.inside.CombinedView.{combined_view}
 use Rattle.rn_assemble.specs.inside.Included.{AreIncluded}
-use Rattle.rn_assemble.specs.inside.Joining.{HasStart, IsCombinedGrammar, IsMisnamed}
+use Rattle.rn_assemble.specs.inside.Joining.{CanBeSettled, IsCombinedGrammar, IsMisnamed}
 use Rattle.rn_assemble.specs.inside.Keyed.{AreNames, key_at}
 use Rattle.rn_assemble.specs.inside.Lacking.{IsLeastLack, LacksFrom}
 use Rattle.rn_assemble.specs.Least.{key_cmp}
 use Rattle.rn_assemble.specs.inside.Listed.{Live, Lists, components_in}
 use Rattle.rn_assemble.specs.inside.Methods.{CanCombine}
 use Rattle.rn_assemble.specs.Refusal.{Lacks, StandsFor, override}
+use Rattle.rn_assemble.specs.Combine.{joined_grammar}
+use Rattle.rn_assemble.specs.SettlingOrder.{IsSettlingOrder}
 use Rattle.rn_assemble.specs.inside.Sound.{HasSoundReferences}
 use Rattle.rn_assemble.specs.inside.Views.{AreNamed}
 use Rattle.rn_assemble.proofs.Answering.FirstRefusal.{NoneBelow, none_included, none_lacking, none_combined, none_sound, misnamed_first, combined_grammar_of}
@@ -86,9 +88,9 @@ module _ (modules : List NamedModule) {trees : TreeView} (names : List Text) (x 
       pub passed_methods : NoneBelow modules 9
       passed_methods = none_combined modules passed_overrides can
 
-      -- one component is of the start
-      pub has_start : HasStart names trees x
-      has_start = (h.listed.0, h.listed.1, h.in_order, ap (has_key start_key) h.listed.2 ∙ can.start)
+      -- one component is of the start, and what they are joined to can be settled in an order for it
+      pub can_be_settled : (order : List ℕ) → ((live : List Live) → Lists names trees x live → IsStrictlySortedBy text_cmp names → IsSettlingOrder (joined_grammar (components_in live)) order) → CanBeSettled names trees x order
+      can_be_settled order f = (h.listed.0, h.listed.1, h.in_order, ap (has_key start_key) h.listed.2 ∙ can.start, f h.listed.0 h.listed.1 h.in_order)
 
       module _ (sound : HasSoundReferences (set_components modules)) where
         passed_references : NoneBelow modules 11

@@ -1,6 +1,6 @@
 -- What is reached in a grammar, and comes back to itself, by the numbers of keys.
-use Rattle.std.proofs.Common.{◌≡◌, ℕ, suc, ◌<◌, inl, inr, Bool, true, false, cond, List, [], length, Option, Some, None, refl, sym, ap, ◌∙◌, subst, arith, Contains, Less}
-use Rattle.std.specs.Prelude.{IsSomeAnd, Decides, MatchOption}
+use Rattle.std.proofs.Common.{◌≡◌, ℕ, suc, ◌<◌, inl, inr, Bool, true, false, cond, List, [], length, Some, None, refl, sym, ap, ◌∙◌, subst, arith, Contains, Less}
+use Rattle.std.specs.Prelude.{IsSomeAnd, Decides}
 use Rattle.std.specs.List.Sorted.{IsStrictlySortedBy}
 use Rattle.std.proofs.lemmas.Bool.{cases_eq, cases_lt}
 use Rattle.rn_pattern.specs.Tree.{Tree}
@@ -88,7 +88,7 @@ module _ (names : List Text) (sorted : IsStrictlySortedBy text_cmp names) (cs : 
     kept_edge : (n m : ℕ) → Contains (row kept n) m → Reached all (row all 0) n × Contains (row outer n) m
     kept_edge n m c = let k = at_kept (is_marked seen n) n m refl (subst (λ l. Contains l m) (rows n) c) in ((marked n).0 k.0, k.1)
 
-    edge_kept : (n m : ℕ) → Reached all (row all 0) n → Contains (row outer n) m → Contains (row kept n) m
+    pub edge_kept : (n m : ℕ) → Reached all (row all 0) n → Contains (row outer n) m → Contains (row kept n) m
     edge_kept n m r c = subst (λ l. Contains l m) (sym (rows n ∙ ap (λ b. cond b (row outer n) []) ((marked n).1 r))) c
 
     kept_leads : {n m : ℕ} → Leads kept n m → Reached all (row all 0) n × Leads outer n m
@@ -116,10 +116,10 @@ module _ (names : List Text) (sorted : IsStrictlySortedBy text_cmp names) (cs : 
         let m = leads x x n.0 n.1 r.1 in
         (n.0, n.1, (leads_kept n.2 (subst (Leads outer n.0) (same_number names sorted x m.0 n.0 m.1 n.1) m.2)).0)
 
-    none_recursive : HasNoLoop kept → IsLeastRecursive names cs None
+    pub none_recursive : HasNoLoop kept → IsLeastRecursive names cs None
     none_recursive h x r = let n = loop_of x r in h n.0 n.2
 
-    least_recursive : (n : ℕ) → IsFirstLoop kept n → IsLeastRecursive names cs (Some n)
+    pub least_recursive : (n : ℕ) → IsFirstLoop kept n → IsLeastRecursive names cs (Some n)
     least_recursive n h =
         let x = recursive_at n h.holds in (
           x.0,
@@ -138,7 +138,3 @@ module _ (names : List Text) (sorted : IsStrictlySortedBy text_cmp names) (cs : 
             | inr ne ↦ text_no_less x y (names_rise names sorted x y n m j i (omega (arith, ge, ne))) l
           ]
         ]
-
-    pub least : (o : Option ℕ) → MatchOption o (HasNoLoop kept) (IsFirstLoop kept) → IsLeastRecursive names cs o
-    least None h = none_recursive h
-    least (Some n) h = least_recursive n h

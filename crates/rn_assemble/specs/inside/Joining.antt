@@ -1,5 +1,5 @@
 -- The grammar of combined patterns, and what stands against it (RELAX NG 2001, 4.16, 4.17).
-use Rattle.std.specs.Prelude.{◌≡◌, true, List, ⊤}
+use Rattle.std.specs.Prelude.{◌≡◌, ℕ, true, List, ⊤}
 use Rattle.std.specs.List.Sorted.{IsStrictlySortedBy}
 use Rattle.rn_text.specs.Texts.{Text, text_cmp}
 use Rattle.rn_assemble.specs.declared.components.Components.{Components}
@@ -14,10 +14,12 @@ use Rattle.rn_assemble.specs.inside.Listed.{Live, Lists, components_in}
 use Rattle.rn_assemble.specs.inside.Trees.{TreeView}
 use Rattle.rn_assemble.specs.Refusal.{BreaksNameRules}
 use Rattle.rn_assemble.specs.Refused.{key_view}
+use Rattle.rn_assemble.specs.SettlingOrder.{IsSettlingOrder}
 
--- the components are listed by the numbers of these names and have these trees, and one of them is of the start
-abbrev pub HasStart : List Text → TreeView → Components → Type 0
-HasStart names trees x = (live : List Live) × Lists names trees x live × IsStrictlySortedBy text_cmp names × (has_key start_key (components_in live) ≡ true)
+-- the components are listed by the numbers of these names and have these trees, one of them is of the start, and what they are joined to can be settled in this order
+abbrev pub CanBeSettled : List Text → TreeView → Components → List ℕ → Type 0
+CanBeSettled names trees x order = (live : List Live) × Lists names trees x live × IsStrictlySortedBy text_cmp names × (has_key start_key (components_in live) ≡ true)
+    × IsSettlingOrder (joined_grammar (components_in live)) order
 
 -- the components' grammar, in which no key breaks the restrictions on name classes
 pub record IsCombinedGrammar (cs : List Component) (c : Combined) : Type 0 where

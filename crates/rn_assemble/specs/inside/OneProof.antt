@@ -1,11 +1,13 @@
 -- What a grammar without a refusal keeps has one proof at most, so that a `Grammar` can hold it.
-use Rattle.std.specs.Prelude.{Option, Some, None, IfSome}
-use Rattle.std.specs.Coded.{×_prop, Π_prop, Unit-prop}
+use Rattle.std.specs.Prelude.{ℕ, List, Option, Some, None, IfSome}
+use Rattle.std.specs.Coded.{×_prop, Π_prop, Unit-prop, le_prop}
+use Rattle.std.proofs.Math.Bool.{Bool-set}
 use Rattle.rn_pattern.specs.Tree as t
 use Rattle.rn_pattern.specs.Tree.{NameTree, NameTrees, any_name, any_name_but, ns_name, ns_name_but, name, name_choice, no_names, more_names, Tree, Trees, no_trees, more_trees}
 use Rattle.rn_pattern.specs.Matching.{Grammar, definition_of}
 use Rattle.rn_pattern.specs.Excepts.{IsExcept, AreExcepts, HasExcepts, HaveExcepts}
 use Rattle.rn_pattern.specs.NameRules.{HasNoAny, HaveNoAny, HasNamesAlone, HaveNamesAlone, HasNameExcepts, HaveNameExcepts, HasNoDeclaration, HaveNoDeclaration, KeepsNameRules, KeepNameRules}
+use Rattle.rn_assemble.specs.SettlingOrder.{IsSettlingOrder}
 use Rattle.rn_assemble.specs.WellFormed.{IsWellFormed}
 
 nothing_prop : IsProp ⊥
@@ -124,4 +126,12 @@ IsWellFormed-prop G v w = λ i. record {
   excepts = Π_prop (λ x. if_some_prop HasExcepts has_excepts_prop (definition_of G x)) v.excepts w.excepts i;
   start_names = rules_prop G.start v.start_names w.start_names i;
   names = Π_prop (λ x. if_some_prop KeepsNameRules rules_prop (definition_of G x)) v.names w.names i;
+}
+
+pub IsSettlingOrder-prop : (G : Grammar) (order : List ℕ) → IsProp (IsSettlingOrder G order)
+IsSettlingOrder-prop G order v w = λ i. record {
+  within = Π_prop (λ k. Π_prop (λ l. le_prop)) v.within w.within i;
+  once = Π_prop (λ k. Π_prop (λ j. Π_prop (λ l. Π_prop (λ m. never_prop)))) v.once w.once i;
+  listed = Π_prop (λ x. Π_prop (λ k. Π_prop (λ r. Π_prop (λ e. Bool-set _ _)))) v.listed w.listed i;
+  behind = Π_prop (λ k. Π_prop (λ j. Π_prop (λ x. Π_prop (λ y. Π_prop (λ p. Π_prop (λ l. Π_prop (λ e. Π_prop (λ d. Π_prop (λ r. Π_prop (λ n. Bool-set _ _)))))))))) v.behind w.behind i;
 }

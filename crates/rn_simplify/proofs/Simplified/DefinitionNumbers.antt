@@ -13,9 +13,8 @@ use Rattle.rn_pattern.specs.declared.tree.Pattern.{Pattern}
 use Rattle.rn_pattern.specs.declared.tree.Pattern.TheVariants as variant
 use Rattle.rn_pattern.proofs.Ordered.PatternKinds.{group_seen, interleave_seen, choice_seen}
 use Rattle.rn_assemble.specs.GrammarView.{definitions_view}
-use Rattle.rn_simplify.specs.inside.DefinitionNumbers.{number_of, numbers_of}
-use Rattle.rn_simplify.specs.inside.ReferredNames.{Reach, references, all_references}
-use Rattle.rn_simplify.specs.inside.ReferenceNumbers.{all_reference_numbers, reference_numbers}
+use Rattle.rn_simplify.specs.inside.DefinitionNumbers.{all_reference_numbers, number_of, numbers_of, reference_numbers}
+use Rattle.rn_simplify.specs.inside.ReferredNames.{references, all_references}
 
 front_is : (es : List (String Global × Pattern)) (x : Text) → prefix_len (λ (k : String Global). not (bytes_eq x (string_bytes k))) (map (λ (e : String Global × Pattern). e.0) es) ≡ prefix_len (λ y. not (bytes_eq x y)) (map (λ (d : Text × Tree). d.0) (definitions_view es))
 front_is [] x = refl
@@ -45,24 +44,24 @@ module _ (es : List (String Global × Pattern)) (x : Text) where
   not_numbered e = ap (λ o. cons_option o []) (sym (number_is es x) ∙ e)
 
 -- the references of a pattern that has members are theirs
-by_kind : (s : Reach) (p : Pattern) (v : Vec (Rc Pattern Global) Global) → (p ≡ variant.Group v) ⊎ ((p ≡ variant.Interleave v) ⊎ (p ≡ variant.Choice v)) → references s (pattern_view p) ≡ all_references s (shared_trees v.items)
-by_kind s p v (inl e) = ap (λ q. references s (pattern_view q)) e ∙ ap (references s) (group_seen v)
-by_kind s p v (inr (inl e)) = ap (λ q. references s (pattern_view q)) e ∙ ap (references s) (interleave_seen v)
-by_kind s p v (inr (inr e)) = ap (λ q. references s (pattern_view q)) e ∙ ap (references s) (choice_seen v)
+by_kind : (p : Pattern) (v : Vec (Rc Pattern Global) Global) → (p ≡ variant.Group v) ⊎ ((p ≡ variant.Interleave v) ⊎ (p ≡ variant.Choice v)) → references (pattern_view p) ≡ all_references (shared_trees v.items)
+by_kind p v (inl e) = ap (λ q. references (pattern_view q)) e ∙ ap (references) (group_seen v)
+by_kind p v (inr (inl e)) = ap (λ q. references (pattern_view q)) e ∙ ap (references) (interleave_seen v)
+by_kind p v (inr (inr e)) = ap (λ q. references (pattern_view q)) e ∙ ap (references) (choice_seen v)
 
-pub of_members : (s : Reach) (p : Pattern) (v : Vec (Rc Pattern Global) Global) (members : List (Rc Pattern Global)) → members ≡ v.items
-    → (p ≡ variant.Group v) ⊎ ((p ≡ variant.Interleave v) ⊎ (p ≡ variant.Choice v)) → all_references s (shared_trees members) ≡ references s (pattern_view p)
-of_members s p v members is kind = ap (λ ps. all_references s (shared_trees ps)) is ∙ sym (by_kind s p v kind)
+pub of_members : (p : Pattern) (v : Vec (Rc Pattern Global) Global) (members : List (Rc Pattern Global)) → members ≡ v.items
+    → (p ≡ variant.Group v) ⊎ ((p ≡ variant.Interleave v) ⊎ (p ≡ variant.Choice v)) → all_references (shared_trees members) ≡ references (pattern_view p)
+of_members p v members is kind = ap (λ ps. all_references (shared_trees ps)) is ∙ sym (by_kind p v kind)
 
-all_more : (s : Reach) (ps : List Tree) (p : Tree) → all_references s (trees_of (ps ++ p ∷ [])) ≡ all_references s (trees_of ps) ++ references s p
-all_more s [] p = append-nil (references s p)
-all_more s (q ∷ ps) p = ap (λ xs. references s q ++ xs) (all_more s ps p) ∙ sym (append_assoc (references s q) (all_references s (trees_of ps)) (references s p))
+all_more : (ps : List Tree) (p : Tree) → all_references (trees_of (ps ++ p ∷ [])) ≡ all_references (trees_of ps) ++ references p
+all_more [] p = append-nil (references p)
+all_more (q ∷ ps) p = ap (λ xs. references q ++ xs) (all_more ps p) ∙ sym (append_assoc (references q) (all_references (trees_of ps)) (references p))
 
 -- one more member
 pub numbers_more : (ds : List (Text × Tree)) (members : List (Rc Pattern Global)) (i : ℕ) (r : Rc Pattern Global) → i < length members → r ≡ get_or members i r
-    → (s : Reach) → all_reference_numbers ds (shared_trees (take (i + 1) members)) s ≡ all_reference_numbers ds (shared_trees (take i members)) s ++ reference_numbers ds (shared_view r) s
-numbers_more ds members i r h is s =
+    → all_reference_numbers ds (shared_trees (take (i + 1) members)) ≡ all_reference_numbers ds (shared_trees (take i members)) ++ reference_numbers ds (shared_view r)
+numbers_more ds members i r h is =
     let before = map shared_view (take i members) in
     let taken : map shared_view (take (i + 1) members) ≡ before ++ shared_view r ∷ [] = ap (map shared_view) (take_more members i r h ∙ ap (λ x. take i members ++ x ∷ []) (sym is)) ∙ map-append shared_view (take i members) (r ∷ []) in
-    ap (numbers_of ds) (ap (λ ps. all_references s (trees_of ps)) taken ∙ all_more s before (shared_view r))
-    ∙ filter_map-append (number_of ds) (all_references s (trees_of before)) (references s (shared_view r))
+    ap (numbers_of ds) (ap (λ ps. all_references (trees_of ps)) taken ∙ all_more before (shared_view r))
+    ∙ filter_map-append (number_of ds) (all_references (trees_of before)) (references (shared_view r))

@@ -3,7 +3,8 @@ use Rattle.std.proofs.Common.{◌≡◌, ◌+◌, ◌<◌, ℕ, zero, suc, List,
 use Rattle.std.specs.Prelude.{bytes_eq, String, string_bytes}
 use Rattle.std.specs.Option.{option_map_or}
 use Rattle.std.specs.declared.alloc.Global.{Global}
-use Rattle.std.proofs.lemmas.List.{take_more, map-append}
+use Rattle.std.specs.List.{filter_map}
+use Rattle.std.proofs.lemmas.List.{length-map, map-append, take_all, take_more}
 use Rattle.indexmap.specs.IndexMap.{set_value_at}
 use Rattle.rn_pattern.specs.Tree.{Tree}
 use Rattle.rn_text.specs.Texts.{Text}
@@ -11,7 +12,7 @@ use Rattle.rn_pattern.specs.View.{pattern_view}
 use Rattle.rn_pattern.specs.declared.tree.Pattern.{Pattern}
 use Rattle.rn_assemble.specs.GrammarView.{definitions_view}
 use Rattle.rn_simplify.specs.inside.DefinitionNumbers.{numbers_of, rows_by}
-use Rattle.rn_simplify.specs.inside.ReferredNames.{Reach, references}
+use Rattle.rn_simplify.specs.inside.ReferredNames.{references}
 use Rattle.rn_simplify.specs.inside.FormKinds.{becomes_by, stand_in}
 use Rattle.rn_simplify.specs.declared.form_kind.FormKind.{FormKind}
 use Rattle.rn_simplify.proofs.Simplified.DefinitionNumbers.{size_of_view}
@@ -49,6 +50,12 @@ module _ (form : Tree → Tree) where
   more_first zero (d ∷ ds) p l e = ap (λ q. (d.0, q) ∷ ds) e
   more_first (suc n) (d ∷ ds) p l e = ap (λ fs. (d.0, form d.1) ∷ fs) (more_first n ds p (omega (arith, l)) e)
 
+  -- the one before has its form
+  form_first : (n : ℕ) (ds : List (Text × Tree)) → n < length ds → get_or (first_formed (suc n) ds) n nothing ≡ get_or (map (λ (d : Text × Tree). (d.0, form d.1)) ds) n nothing
+  form_first n [] l = absurd (omega (arith, l))
+  form_first zero (d ∷ ds) l = refl
+  form_first (suc n) (d ∷ ds) l = form_first n ds (omega (arith, l))
+
   all_formed : (ds : List (Text × Tree)) → first_formed (length ds) ds ≡ map (λ (d : Text × Tree). (d.0, form d.1)) ds
   all_formed [] = refl
   all_formed (d ∷ ds) = ap (λ fs. (d.0, form d.1) ∷ fs) (all_formed ds)
@@ -56,6 +63,11 @@ module _ (form : Tree → Tree) where
   -- all have their forms
   pub all_first : (n : ℕ) (ds : List (Text × Tree)) → n ≡ length ds → first_formed n ds ≡ map (λ (d : Text × Tree). (d.0, form d.1)) ds
   all_first n ds e = ap (λ m. first_formed m ds) e ∙ all_formed ds
+
+  pub size_put : (es : List (String Global × Pattern)) (n : ℕ) (w : Pattern) → length (set_value_at es n w) ≡ length es
+  size_put [] n w = refl
+  size_put (e ∷ es) zero w = refl
+  size_put (e ∷ es) (suc n) w = ap suc (size_put es n w)
 
   set_view : (es : List (String Global × Pattern)) (n : ℕ) (w : Pattern) → definitions_view (set_value_at es n w) ≡ set_value_at (definitions_view es) n (pattern_view w)
   set_view [] n w = refl
@@ -74,8 +86,32 @@ pub becomes_same : (ds es : List (Text × Tree)) (kinds : List FormKind) → map
 becomes_same ds es kinds e = λ i x. stand_in (option_map_or (λ k. get_or kinds k FormKind.Other) (position (bytes_eq x) (e i)) FormKind.Other) x
 
 -- rows of references, the one with the number n more
-pub rows_more : (s : Reach) (ds es : List (Text × Tree)) (n : ℕ) (old new : List (List ℕ)) (r : List ℕ) → n < length es → old ≡ rows_by s ds (take n es) → new ≡ old ++ r ∷ []
-    → r ≡ numbers_of ds (references s (get_or es n nothing).1) → new ≡ rows_by s ds (take (n + 1) es)
-rows_more s ds es n old new r l before more is =
-    let f : Text × Tree → List ℕ = λ e. numbers_of ds (references s e.1) in
+pub rows_more : (ds es : List (Text × Tree)) (n : ℕ) (old new : List (List ℕ)) (r : List ℕ) → n < length es → old ≡ rows_by ds (take n es) → new ≡ old ++ r ∷ []
+    → r ≡ numbers_of ds (references (get_or es n nothing).1) → new ≡ rows_by ds (take (n + 1) es)
+rows_more ds es n old new r l before more is =
+    let f : Text × Tree → List ℕ = λ e. numbers_of ds (references e.1) in
     more ∙ (λ i. before i ++ is i ∷ []) ∙ sym (ap (map f) (take_more es n nothing l) ∙ map-append f (take n es) (get_or es n nothing ∷ []))
+
+numbers_alike : (ds es : List (Text × Tree)) (xs : List Text) → map (λ (d : Text × Tree). d.0) es ≡ map (λ (d : Text × Tree). d.0) ds → numbers_of es xs ≡ numbers_of ds xs
+numbers_alike ds es xs e = λ i. filter_map (λ x. position (bytes_eq x) (e i)) xs
+
+-- rows of the forms of the first n, by the numbers of the definitions that have bodies still
+module _ (form : Tree → Tree) (ds : List (Text × Tree)) where
+  abbrev formed : List (Text × Tree)
+  formed = map (λ (d : Text × Tree). (d.0, form d.1)) ds
+
+  pub rows_formed_more : (n : ℕ) (es : List (Text × Tree)) (old new : List (List ℕ)) → n < length ds → es ≡ first_formed form (n + 1) ds → old ≡ rows_by ds (take n formed)
+      → new ≡ old ++ numbers_of es (references (get_or es n nothing).1) ∷ [] → new ≡ rows_by ds (take (n + 1) formed)
+  rows_formed_more n es old new l is before more =
+      let next : n + 1 ≡ suc n = omega arith in
+      let here : get_or es n nothing ≡ get_or formed n nothing = ap (λ fs. get_or fs n nothing) (is ∙ ap (λ m. first_formed form m ds) next) ∙ form_first form n ds l in
+      let names : map (λ (d : Text × Tree). d.0) es ≡ map (λ (d : Text × Tree). d.0) ds = ap (map (λ (d : Text × Tree). d.0)) is ∙ names_first form (n + 1) ds in
+      let numbers : numbers_of es (references (get_or es n nothing).1) ≡ numbers_of ds (references (get_or formed n nothing).1) =
+      numbers_alike ds es (references (get_or es n nothing).1) names ∙ ap (λ (d : Text × Tree). numbers_of ds (references d.1)) here in
+      rows_more ds formed n old new (numbers_of es (references (get_or es n nothing).1)) (omega (arith, l, length-map {B = Text × Tree} ds (λ (d : Text × Tree). (d.0, form d.1)))) before more numbers
+
+  pub all_rows_formed : (n : ℕ) (rows : List (List ℕ)) (es : List (Text × Tree)) → n ≡ length ds → es ≡ formed → rows ≡ rows_by ds (take n formed) → rows ≡ rows_by es es
+  all_rows_formed n rows es past is made =
+      let all : take n formed ≡ formed = take_all n formed (omega (arith, past, length-map {B = Text × Tree} ds (λ (d : Text × Tree). (d.0, form d.1)))) in
+      let names : map (λ (d : Text × Tree). d.0) es ≡ map (λ (d : Text × Tree). d.0) ds = ap (map (λ (d : Text × Tree). d.0)) (is ∙ sym (all_first form (length ds) ds refl)) ∙ names_first form (length ds) ds in
+      made ∙ ap (rows_by ds) (all ∙ sym is) ∙ (λ i. map (λ (d : Text × Tree). filter_map (λ x. position (bytes_eq x) (sym names i)) (references d.1)) es)

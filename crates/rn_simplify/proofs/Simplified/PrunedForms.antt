@@ -26,7 +26,7 @@ use Rattle.rn_pattern.specs.Graph.{is_marked}
 use Rattle.rn_assemble.specs.GrammarView.{definitions_view}
 use Rattle.rn_simplify.specs.inside.MarkedElements.{marked_elements}
 use Rattle.rn_simplify.specs.inside.DefinitionNumbers.{MarksReached, numbers_of, rows_by}
-use Rattle.rn_simplify.specs.inside.ReferredNames.{Reach, references}
+use Rattle.rn_simplify.specs.inside.ReferredNames.{references}
 use Rattle.rn_pattern.proofs.Ordered.Orders.{text_same}
 use Rattle.rn_simplify.proofs.Simplified.ReferredIn.{contains_none}
 use Rattle.rn_simplify.proofs.Simplified.ReferenceGraph.{nothing, is_at, number_some, body_is, reached_number, number_reached}
@@ -128,8 +128,8 @@ names_rise {g = g} {f = f} ys distinct up h =
         rises_at (get_or (names xs) k []) (get_or (names xs) (k + 1) []) (text_cmp (get_or (names xs) k []) (get_or (names xs) (k + 1) [])) refl falls (apart_from_distinct bytes_eq (names xs) k (k + 1) [] d (omega arith) l)
 
 -- numbers by other definitions of the same names
-pub rows_same : (s : Reach) (ds es : List (Text × Tree)) → map (λ (d : Text × Tree). d.0) es ≡ map (λ (d : Text × Tree). d.0) ds → rows_by s ds es ≡ rows_by s es es
-rows_same s ds es e = λ i. map (λ (d : Text × Tree). filter_map (λ x. position (bytes_eq x) (sym e i)) (references s d.1)) es
+pub rows_same : (ds es : List (Text × Tree)) → map (λ (d : Text × Tree). d.0) es ≡ map (λ (d : Text × Tree). d.0) ds → rows_by ds es ≡ rows_by es es
+rows_same ds es e = λ i. map (λ (d : Text × Tree). filter_map (λ x. position (bytes_eq x) (sym e i)) (references d.1)) es
 
 pub numbers_same : (ds es : List (Text × Tree)) (xs : List Text) → map (λ (d : Text × Tree). d.0) es ≡ map (λ (d : Text × Tree). d.0) ds → numbers_of ds xs ≡ numbers_of es xs
 numbers_same ds es xs e = λ i. filter_map (λ x. position (bytes_eq x) (sym e i)) xs

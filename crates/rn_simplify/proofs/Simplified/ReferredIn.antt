@@ -6,10 +6,8 @@ use Rattle.std.proofs.lemmas.List.Elements.{Contains-append_left, Contains-appen
 use Rattle.rn_pattern.specs.Tree.{Tree, Trees, ref, datum_but, list, attribute, element, one_or_more, group, interleave, choice, no_trees, more_trees}
 use Rattle.rn_text.specs.Texts.{Text}
 use Rattle.rn_pattern.specs.Reached.{RefersTo, SomeRefersTo}
-use Rattle.rn_pattern.specs.References.{RefersOutside, SomeRefersOutside}
 use Rattle.rn_pattern.proofs.Ordered.InOrder.{contains_behind, contains_front, contains_cases}
 use Rattle.rn_simplify.specs.inside.ReferredNames.{references, all_references}
-use Rattle.rn_pattern.specs.declared.references.Reach.TheVariants.{Everywhere, OutsideElements}
 
 pub contains_none : {X : Type 0} (x : X) → Contains [] x → ⊥
 contains_none x (k, l, is) = absurd (omega (arith, l))
@@ -21,7 +19,7 @@ one_contained : (x y : Text) → x ≡ y → Contains (y ∷ []) x
 one_contained x y e = subst (λ z. Contains (y ∷ []) z) (sym e) (contains_front y [])
 
 mutual
-  pub refers_in : (x : Text) (p : Tree) → RefersTo x p → Contains (references Everywhere p) x
+  pub refers_in : (x : Text) (p : Tree) → RefersTo x p → Contains (references p) x
   refers_in x (ref y) h = one_contained x y h
   refers_in x (datum_but l t ps p) h = refers_in x p h
   refers_in x (list p) h = refers_in x p h
@@ -33,13 +31,13 @@ mutual
   refers_in x (choice ps) h = some_refers_in x ps h
   refers_in x p h = absurd h
 
-  some_refers_in : (x : Text) (ps : Trees) → SomeRefersTo x ps → Contains (all_references Everywhere ps) x
+  some_refers_in : (x : Text) (ps : Trees) → SomeRefersTo x ps → Contains (all_references ps) x
   some_refers_in x no_trees h = absurd h
-  some_refers_in x (more_trees p ps) (inl h) = Contains-append_left (references Everywhere p) (all_references Everywhere ps) x (refers_in x p h)
-  some_refers_in x (more_trees p ps) (inr h) = Contains-append_right (references Everywhere p) (all_references Everywhere ps) x (some_refers_in x ps h)
+  some_refers_in x (more_trees p ps) (inl h) = Contains-append_left (references p) (all_references ps) x (refers_in x p h)
+  some_refers_in x (more_trees p ps) (inr h) = Contains-append_right (references p) (all_references ps) x (some_refers_in x ps h)
 
 mutual
-  pub in_refers : (x : Text) (p : Tree) → Contains (references Everywhere p) x → RefersTo x p
+  pub in_refers : (x : Text) (p : Tree) → Contains (references p) x → RefersTo x p
   in_refers x (ref y) h = contains_one x y h
   in_refers x (datum_but l t ps p) h = in_refers x p h
   in_refers x (list p) h = in_refers x p h
@@ -51,42 +49,9 @@ mutual
   in_refers x (choice ps) h = in_some_refers x ps h
   in_refers x p h = absurd (contains_none x h)
 
-  in_some_refers : (x : Text) (ps : Trees) → Contains (all_references Everywhere ps) x → SomeRefersTo x ps
+  in_some_refers : (x : Text) (ps : Trees) → Contains (all_references ps) x → SomeRefersTo x ps
   in_some_refers x no_trees h = absurd (contains_none x h)
-  in_some_refers x (more_trees p ps) h = ⊎_elim (λ c. inl (in_refers x p c)) (λ c. inr (in_some_refers x ps c)) (Contains-append_cases (references Everywhere p) (all_references Everywhere ps) x h)
-
-mutual
-  pub outside_in : (x : Text) (p : Tree) → RefersOutside x p → Contains (references OutsideElements p) x
-  outside_in x (ref y) h = one_contained x y h
-  outside_in x (datum_but l t ps p) h = outside_in x p h
-  outside_in x (list p) h = outside_in x p h
-  outside_in x (attribute c p) h = outside_in x p h
-  outside_in x (one_or_more p) h = outside_in x p h
-  outside_in x (group ps) h = some_outside_in x ps h
-  outside_in x (interleave ps) h = some_outside_in x ps h
-  outside_in x (choice ps) h = some_outside_in x ps h
-  outside_in x p h = absurd h
-
-  some_outside_in : (x : Text) (ps : Trees) → SomeRefersOutside x ps → Contains (all_references OutsideElements ps) x
-  some_outside_in x no_trees h = absurd h
-  some_outside_in x (more_trees p ps) (inl h) = Contains-append_left (references OutsideElements p) (all_references OutsideElements ps) x (outside_in x p h)
-  some_outside_in x (more_trees p ps) (inr h) = Contains-append_right (references OutsideElements p) (all_references OutsideElements ps) x (some_outside_in x ps h)
-
-mutual
-  pub in_outside : (x : Text) (p : Tree) → Contains (references OutsideElements p) x → RefersOutside x p
-  in_outside x (ref y) h = contains_one x y h
-  in_outside x (datum_but l t ps p) h = in_outside x p h
-  in_outside x (list p) h = in_outside x p h
-  in_outside x (attribute c p) h = in_outside x p h
-  in_outside x (one_or_more p) h = in_outside x p h
-  in_outside x (group ps) h = in_some_outside x ps h
-  in_outside x (interleave ps) h = in_some_outside x ps h
-  in_outside x (choice ps) h = in_some_outside x ps h
-  in_outside x p h = absurd (contains_none x h)
-
-  in_some_outside : (x : Text) (ps : Trees) → Contains (all_references OutsideElements ps) x → SomeRefersOutside x ps
-  in_some_outside x no_trees h = absurd (contains_none x h)
-  in_some_outside x (more_trees p ps) h = ⊎_elim (λ c. inl (in_outside x p c)) (λ c. inr (in_some_outside x ps c)) (Contains-append_cases (references OutsideElements p) (all_references OutsideElements ps) x h)
+  in_some_refers x (more_trees p ps) h = ⊎_elim (λ c. inl (in_refers x p c)) (λ c. inr (in_some_refers x ps c)) (Contains-append_cases (references p) (all_references ps) x h)
 
 -- what a list holds gives what its image holds, and back
 module _ {X Y : Type 0} (h : X → Option Y) where

@@ -22,16 +22,11 @@ use Rattle.rn_pattern.proofs.Ordered.PatternKinds.{choice_seen, interleave_seen}
 use Rattle.rn_pattern.proofs.Ordered.SortedMembers.{sorted_once_members}
 use Rattle.rn_pattern.proofs.Ordered.TotalOrder.{tree_cmp_total}
 use Rattle.rn_assemble.specs.Firsts.{joined_members}
-use Rattle.rn_simplify.specs.inside.DefinitionNumbers.{number_of, numbers_of}
-use Rattle.rn_simplify.specs.inside.ReferredNames.{Reach, references, all_references}
-use Rattle.rn_simplify.specs.inside.ReferenceNumbers.{AreReferenceNumbers}
 use Rattle.rn_simplify.specs.inside.Repeats.{AreSameButRepeats, choices, interleaves}
 use Rattle.rn_simplify.specs.inside.FormKinds.{both, either, tree_kind, group_kind, choice_kind}
-use Rattle.rn_pattern.specs.declared.references.Reach.TheVariants.{Everywhere, OutsideElements}
-use Rattle.rn_pattern.specs.declared.references.NodeReferences.{NodeReferences}
 use Rattle.rn_simplify.specs.declared.form_kind.FormKind.{FormKind}
 use Rattle.rn_simplify.proofs.Simplified.FormKinds.{around_twice, both_assoc, either_assoc, either_twice}
-use Rattle.rn_simplify.proofs.Simplified.ReferredIn.{contains_none, mapped_in, source_of}
+use Rattle.rn_simplify.proofs.Simplified.ReferredIn.{contains_none}
 
 -- ---- lists that hold the same
 
@@ -135,35 +130,6 @@ module _ (p : Pattern) (v : Vec (Rc Pattern Global) Global) (xs : List (Rc Patte
       subst (λ t. AreSameButRepeats t (pattern_view p)) (sym (ap pattern_view f ∙ interleave_seen w))
       (subst (λ t. AreSameButRepeats (interleave (shared_trees w.items)) t) (sym (ap pattern_view e ∙ interleave_seen v))
       (interleaves (holds_listed (map shared_view w.items) (map shared_view v.items) (subst (λ ys. HaveSameMembers (map shared_view w.items) (map shared_view ys)) h s))))
-
--- ---- references
-
-all_flat : (s : Reach) (ps : Trees) → all_references s ps ≡ flat_map (references s) (list_of ps)
-all_flat s no_trees = refl
-all_flat s (more_trees p ps) = ap (λ xs. references s p ++ xs) (all_flat s ps)
-
-all_same : (s : Reach) (ps qs : Trees) → HaveSameMembers (list_of ps) (list_of qs) → HaveSameMembers (all_references s ps) (all_references s qs)
-all_same s ps qs h =
-    subst (λ xs. HaveSameMembers xs (all_references s qs)) (sym (all_flat s ps)) (subst (λ ys. HaveSameMembers (flat_map (references s) (list_of ps)) ys) (sym (all_flat s qs)) (flat_same (references s) (list_of ps) (list_of qs) h))
-
-pub references_same : (s : Reach) (p q : Tree) → AreSameButRepeats p q → HaveSameMembers (references s p) (references s q)
-references_same s p q (choices {ps = ps} {qs = qs} h) = all_same s ps qs h
-references_same s p q (interleaves {ps = ps} {qs = qs} h) = all_same s ps qs h
-
-numbers_within : (ds : List (Text × Tree)) (xs ys : List Text) → ((x : Text) → Contains xs x → Contains ys x) → (k : ℕ) → Contains (numbers_of ds xs) k → Contains (numbers_of ds ys) k
-numbers_within ds xs ys f k c = let w = source_of (number_of ds) xs k c in mapped_in (number_of ds) ys w.0 k (f w.0 w.1) w.2
-
-pub numbers_alike : (ds : List (Text × Tree)) (xs ys : List Text) → HaveSameMembers xs ys → HaveSameMembers (numbers_of ds xs) (numbers_of ds ys)
-numbers_alike ds xs ys h k = (numbers_within ds xs ys (λ x. (h x).0) k, numbers_within ds ys xs (λ x. (h x).1) k)
-
-same_then : {X : Type 0} (xs ys zs : List X) → HaveSameMembers xs ys → HaveSameMembers ys zs → HaveSameMembers xs zs
-same_then xs ys zs h k x = (λ c. (k x).0 ((h x).0 c), λ c. (h x).1 ((k x).1 c))
-
--- the references of a list without repeats are those of the list
-pub references_alike : (ds : List (Text × Tree)) (p q : Tree) (found : NodeReferences) → AreSameButRepeats p q → AreReferenceNumbers ds p found → AreReferenceNumbers ds q found
-references_alike ds p q found same are =
-    let alike = λ (s : Reach). numbers_alike ds (references s p) (references s q) (references_same s p q same) in
-    record { everywhere = same_then _ _ _ are.everywhere (alike Everywhere); outside = same_then _ _ _ are.outside (alike OutsideElements) }
 
 -- ---- the kind of the form of a list
 

@@ -18,7 +18,7 @@ use Rattle.rn_simplify.specs.inside.FormKinds.{becomes_by, stand_in, kind_of}
 use Rattle.rn_simplify.specs.declared.form_kind.FormKind.{FormKind}
 use Rattle.rn_simplify.proofs.Simplified.FormKinds.{settled_canonical, stand_in_is}
 use Rattle.rn_simplify.proofs.Simplified.ReferenceGraph.{nothing, is_at, body_is}
-use Rattle.rn_simplify.proofs.Simplified.SettlingOrder.{taken_at, before_taken}
+use Rattle.rn_assemble.proofs.Referring.KeyOrders.{taken_at, before_taken}
 
 -- patterns whose references outside elements become the same have forms of one kind
 kind_same : (s t : Text → Tree) → ((x : Text) → IsCanonicalPattern (s x)) → ((x : Text) → IsCanonicalPattern (t x)) → (x : Text) (p : Tree) → ((y : Text) → RefersOutside y p → s y ≡ t y) → ref_unless_settled x (canonical s p) ≡ ref_unless_settled x (canonical t p)

@@ -3,7 +3,7 @@ use Rattle.rn_assemble.specs.inside.Methods.{CanCombine, IsUncombined}
 use Rattle.rn_assemble.specs.inside.Sound.{HasSoundReferences, IsUnsound}
 use Rattle.rn_assemble.specs.inside.Views.{names_of}
 use Rattle.rn_assemble.proofs.Answering.FirstRefusal.{uncombined_first, unsound_first}
-use Rattle.rn_assemble.proofs.Answering.CheckedModules.{at_set, combined_or_first, passed_methods, passed_overrides, has_start}
+use Rattle.rn_assemble.proofs.Answering.CheckedModules.{at_set, combined_or_first, passed_methods, passed_overrides, can_be_settled}
 use Rattle.rn_assemble.proofs.assembly.combine_keys.Goals as goal
 
 pub check_overrides-requires : goal.check_overrides-requires
@@ -20,26 +20,27 @@ returns-in_err-check_methods c = λ ms named h.
     let passed = passed_overrides ms names x h (c.in_ok-check_overrides.ensures ms named h.lack) in
     rw (p.1, p.2) (uncombined_first ms passed q (at_set ms names x h (λ cs. IsUncombined cs q) (c.in_err-check_methods.ensures _)))
 
-pub returns-in_err-check_references : goal.returns-in_err-check_references
-returns-in_err-check_references c = λ ms named h.
+pub returns-in_err-references : goal.returns-in_err-references
+returns-in_err-references c = λ ms named h.
     let names = names_of c.args.keys.now in
     let x = c.args.components.now in
-    let q = c.in_err-check_references.field-0.0 in
-    let p = err_from_is_err_and c.from_residual-in_err-check_references.result c.from_residual-in_err-check_references.ensures.1 in
+    let q = c.in_err-references.field-0.0 in
+    let p = err_from_is_err_and c.from_residual-in_err-references.result c.from_residual-in_err-references.ensures.1 in
     let passed = passed_methods ms names x h (c.in_ok-check_overrides.ensures ms named h.lack) (at_set ms names x h CanCombine (c.in_ok-check_methods.ensures _)) in
-    rw (p.1, p.2) (unsound_first ms passed q (at_set ms names x h (λ cs. IsUnsound cs q) c.in_err-check_references.ensures))
+    rw (p.1, p.2) (unsound_first ms passed q (at_set ms names x h (λ cs. IsUnsound cs q) c.in_err-references.ensures))
 
 pub combined_grammar-requires : goal.combined_grammar-requires
 combined_grammar-requires c =
     let (ms, named, h) = c.requires in
     let names = names_of c.args.keys.now in
     let x = c.args.components.now in
-    has_start ms names x h (c.in_ok-check_overrides.ensures ms named h.lack) (at_set ms names x h CanCombine (c.in_ok-check_methods.ensures _))
+    can_be_settled ms names x h (c.in_ok-check_overrides.ensures ms named h.lack) (at_set ms names x h CanCombine (c.in_ok-check_methods.ensures _)) c.in_ok-order.order.numbers.items
+    (λ live l s. c.in_ok-order.ensures _ live l s (c.in_ok-references.ensures live l s).1)
 
 pub returns : goal.returns
 returns c = λ ms named h.
     let names = names_of c.args.keys.now in
     let x = c.args.components.now in
     let can = at_set ms names x h CanCombine (c.in_ok-check_methods.ensures _) in
-    let sound = at_set ms names x h HasSoundReferences c.in_ok-check_references.ensures in
+    let sound = at_set ms names x h HasSoundReferences (λ live l s. (c.in_ok-references.ensures live l s).0) in
     combined_or_first ms names x h (c.in_ok-check_overrides.ensures ms named h.lack) can sound c.combined_grammar.result c.combined_grammar.ensures

@@ -1,11 +1,14 @@
 use Rattle.std.proofs.Common.{◌≡◌, Some, refl, sym, ap, ◌∙◌, subst, arith}
 use Rattle.std.specs.Prelude.{option_map}
+use Rattle.rn_pattern.specs.Matching.{Grammar}
 use Rattle.rn_pattern.specs.View.{boxed_view}
-use Rattle.rn_assemble.specs.Combine.{joined_pattern}
+use Rattle.rn_assemble.specs.Combine.{joined_grammar, joined_pattern}
 use Rattle.rn_assemble.specs.Components.{start_key}
 use Rattle.rn_assemble.specs.Firsts.{joined_members}
 use Rattle.rn_assemble.specs.inside.Joining.{IsCombinedGrammar, IsMisnamed}
 use Rattle.rn_assemble.specs.inside.Listed.{components_in}
+use Rattle.rn_assemble.specs.SettlingOrder.{IsSettlingOrder}
+use Rattle.rn_assemble.specs.inside.CombinedDefinitions.{combined_definitions}
 use Rattle.rn_assemble.specs.inside.Tied.{AreTied}
 use Rattle.rn_assemble.specs.inside.Trees.{trees_by}
 use Rattle.rn_assemble.specs.inside.Views.{names_of}
@@ -28,7 +31,7 @@ returns-in_err-combine c = λ live h o t.
 
 pub unwrap-start-requires : goal.unwrap-start-requires
 unwrap-start-requires c =
-    let (live, h, o, t) = c.requires in
+    let (live, h, o, t, order) = c.requires in
     let trees = trees_by c.args.trees.now.trees.items in
     let kept = c.in_ok-combine.ensures.exact trees (λ number. refl) live h o (omega arith) (c.in_ok-combining.ensures.shared (names_of c.args.keys.now) trees) in
     start_held (components_in live) c.in_ok-combine.field-0 kept t
@@ -48,7 +51,7 @@ returns-in_err-definitions c = λ live h o t.
 
 pub invariant_of-result : goal.invariant_of-result
 invariant_of-result c =
-    let (live, h, o, t) = c.requires in
+    let (live, h, o, t, order) = c.requires in
     let cs = components_in live in
     let trees = trees_by c.args.trees.now.trees.items in
     let shared = c.in_ok-combining.ensures.shared (names_of c.args.keys.now) trees in
@@ -58,9 +61,12 @@ invariant_of-result c =
     let held : Some (boxed_view c.unwrap-start.result) ≡ Some (joined_pattern cs start_key) = ap (option_map boxed_view) (sym c.unwrap-start.ensures) ∙ start_tree cs c.in_ok-combine.field-0 kept t in
     let start : boxed_view c.unwrap-start.result ≡ joined_pattern cs start_key = cc in
     let firsts = c.in_ok-start_firsts.start_firsts.items in
+    let same : ◌≡◌ {A = Grammar} (record { start = boxed_view c.unwrap-start.result; definitions = combined_definitions c.in_ok-definitions.definitions.items }) (joined_grammar cs) =
+    λ i. record { start = start i; definitions = made.are i } in
     record {
       start_tied = subst (λ p. AreTied firsts (joined_members p)) (sym start) (c.in_ok-start_firsts.ensures trees (names_of c.args.keys.now) live h o (omega arith));
       tied = made.tied;
+      in_order = subst (λ (g : Grammar). IsSettlingOrder g c.args.order.numbers.items) (sym same) order;
     }
 
 pub returns : goal.returns

@@ -13,5 +13,5 @@ returns c = λ new.
     let before = c.args.defs.now.entries in
     let name : string_bytes c.in_ok-name.name ≡ c.args.definition.name.now = c.in_ok-name.ensures.ok in
     let absent = ap (λ s. list_any (bytes_eq s) (map (λ (d : Text × Tree). d.0) (definitions_view before))) name ∙ new in
-    ap definitions_view c.in_ok-insert.ensures.entries ∙ inserted before c.in_ok-name.name c.into_inner.result absent
-    ∙ (λ i. definitions_view before ++ (name i, pattern_view (c.into_inner.ensures i)) ∷ [])
+    ap definitions_view c.in_ok-insert.ensures.entries ∙ inserted before c.in_ok-name.name c.args.definition.pattern absent
+    ∙ (λ i. definitions_view before ++ (name i, pattern_view c.args.definition.pattern) ∷ [])

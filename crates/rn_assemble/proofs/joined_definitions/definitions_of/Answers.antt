@@ -4,7 +4,7 @@ use Rattle.std.specs.List.{list_any}
 use Rattle.std.specs.Vec.Iter.{into_iter_items}
 use Rattle.std.proofs.lemmas.List.{map-append}
 use Rattle.rn_pattern.specs.Tree.{Tree}
-use Rattle.rn_pattern.specs.View.{boxed_view}
+use Rattle.rn_pattern.specs.View.{pattern_view}
 use Rattle.rn_text.specs.Texts.{Text}
 use Rattle.rn_assemble.specs.declared.combined_grammar.CombinedDefinition.{CombinedDefinition}
 use Rattle.rn_assemble.specs.Combine.{AreDistinct}
@@ -14,7 +14,7 @@ use Rattle.rn_assemble.proofs.joined_definitions.definitions_of.Goals as goal
 
 pub loop-definition-preserved : goal.loop-definition-preserved
 loop-definition-preserved c =
-    let view : CombinedDefinition → Text × Tree = λ (d : CombinedDefinition). (d.name.now, boxed_view d.pattern) in
+    let view : CombinedDefinition → Text × Tree = λ (d : CombinedDefinition). (d.name.now, pattern_view d.pattern) in
     let before = c.loop-definition.yielded in
     let left = into_iter_items c.next.new.self in
     let step : into_iter_items c.loop-definition.definition-iterator ≡ c.in-Some.definition ∷ left = c.in-Some.ensures.steps.0 in

@@ -10,4 +10,4 @@ pub body_form-requires : goal.body_form-requires
 body_form-requires c = subst (λ p. AreFirsts c.args.firsts.now (joined_members p)) (sym (c.body_of-body.ensures nothing)) (c.requires.firsts nothing)
 
 pub returns-clause-made : goal.returns-clause-made
-returns-clause-made c = λ d. c.in_ok-form.ensures ∙ ap (canonical (becomes_by (definitions_view c.args.definitions.now.entries) c.args.settled.kinds.items)) (c.body_of-body.ensures d)
+returns-clause-made c = λ d. c.in_ok-form.ensures ∙ ap (canonical (becomes_by (definitions_view c.args.definitions.now.entries) c.args.kinds.items)) (c.body_of-body.ensures d)

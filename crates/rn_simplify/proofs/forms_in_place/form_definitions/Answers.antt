@@ -2,60 +2,75 @@ use Rattle.std.proofs.Common.{◌≡◌, length, map, get_or, refl, sym, ap, ◌
 use Rattle.rn_assemble.specs.Firsts.{AreFirsts, joined_members}
 use Rattle.rn_assemble.specs.GrammarView.{definitions_view}
 use Rattle.rn_pattern.specs.Canonical.{canonical}
+use Rattle.rn_pattern.specs.Graph.{rows_of}
 use Rattle.rn_pattern.specs.Tree.{Tree}
 use Rattle.rn_text.specs.Texts.{Text}
 use Rattle.rn_simplify.specs.inside.FormKinds.{becomes_by}
 use Rattle.rn_simplify.proofs.Simplified.DefinitionNumbers.{size_of_view}
-use Rattle.rn_simplify.proofs.Simplified.FormsInPlace.{all_first, becomes_same, body_first, names_first, put_first, entries_first}
+use Rattle.rn_simplify.proofs.Simplified.FormsInPlace.{all_first, all_rows_formed, rows_formed_more, becomes_same, body_first, names_first, put_first, entries_first, size_put}
 use Rattle.rn_simplify.proofs.Simplified.ReferenceGraph.{nothing}
 use Rattle.rn_simplify.proofs.forms_in_place.form_definitions.Goals as goal
 
 pub loop-number-init : goal.loop-number-init
-loop-number-init c = record { kinds = refl; formed = refl }
+loop-number-init c = record { kinds = refl; formed = refl; rows = c.in_ok-rows.ensures.rows }
 
 pub form_at-requires-clause-sized : goal.form_at-requires-clause-sized
 form_at-requires-clause-sized c =
-    let t = canonical (becomes_by (definitions_view c.args.definitions.now.entries) c.args.settled.kinds.items) in
+    let t = canonical (becomes_by (definitions_view c.args.definitions.now.entries) c.args.kinds.items) in
     ap length c.loop-number.invariant.kinds ∙ c.requires.sized ∙ sym (entries_first t c.loop-number.number c.loop-number.definitions.entries c.args.definitions.now.entries c.loop-number.invariant.formed)
 
 pub form_at-requires-clause-within : goal.form_at-requires-clause-within
 form_at-requires-clause-within c =
-    let t = canonical (becomes_by (definitions_view c.args.definitions.now.entries) c.args.settled.kinds.items) in
+    let t = canonical (becomes_by (definitions_view c.args.definitions.now.entries) c.args.kinds.items) in
     omega (arith, entries_first t c.loop-number.number c.loop-number.definitions.entries c.args.definitions.now.entries c.loop-number.invariant.formed)
 
 pub form_at-requires-clause-firsts : goal.form_at-requires-clause-firsts
 form_at-requires-clause-firsts c = λ d.
     let ds = definitions_view c.args.definitions.now.entries in
     let n = c.loop-number.number in
-    let t = canonical (becomes_by ds c.args.settled.kinds.items) in
+    let t = canonical (becomes_by ds c.args.kinds.items) in
     let same : get_or (definitions_view c.loop-number.definitions.entries) n d ≡ get_or ds n d = ap (λ fs. get_or fs n d) c.loop-number.invariant.formed ∙ body_first t n ds d in
     subst (λ p. AreFirsts c.firsts_at-first_members.result.now (joined_members p)) (sym (ap (λ (e : Text × Tree). e.1) same))
     (subst (λ is. AreFirsts is (joined_members (get_or ds n d).1)) (sym c.firsts_at-first_members.ensures) (c.requires.firsts n d (omega (arith, size_of_view c.args.definitions.now.entries))))
 
 pub index_mut-requires : goal.index_mut-requires
 index_mut-requires c =
-    let t = canonical (becomes_by (definitions_view c.args.definitions.now.entries) c.args.settled.kinds.items) in
+    let t = canonical (becomes_by (definitions_view c.args.definitions.now.entries) c.args.kinds.items) in
     omega (arith, entries_first t c.loop-number.number c.loop-number.definitions.entries c.args.definitions.now.entries c.loop-number.invariant.formed)
+
+pub push_references-requires : goal.push_references-requires
+push_references-requires c =
+    let t = canonical (becomes_by (definitions_view c.args.definitions.now.entries) c.args.kinds.items) in
+    omega (arith, size_put t c.loop-number.definitions.entries c.loop-number.number c.in_ok-form.form, entries_first t c.loop-number.number c.loop-number.definitions.entries c.args.definitions.now.entries c.loop-number.invariant.formed)
 
 pub loop-number-preserved : goal.loop-number-preserved
 loop-number-preserved c =
     let ds = definitions_view c.args.definitions.now.entries in
     let es = c.loop-number.definitions.entries in
-    let kinds = c.args.settled.kinds.items in
+    let kinds = c.args.kinds.items in
     let n = c.loop-number.number in
     let t = canonical (becomes_by ds kinds) in
     let inv = c.loop-number.invariant in
-    let becomes : becomes_by (definitions_view es) c.loop-number.settled.kinds.items ≡ becomes_by ds kinds =
+    let becomes : becomes_by (definitions_view es) c.loop-number.kinds.items ≡ becomes_by ds kinds =
     ap (becomes_by (definitions_view es)) inv.kinds ∙ becomes_same ds (definitions_view es) kinds (ap (map (λ (d : Text × Tree). d.0)) inv.formed ∙ names_first t n ds) in
     let body : get_or (definitions_view es) n nothing ≡ get_or ds n nothing = ap (λ fs. get_or fs n nothing) inv.formed ∙ body_first t n ds nothing in
     let made = c.in_ok-form.ensures.made nothing ∙ (λ i. canonical (becomes i) (body i).1) in
+    let formed = put_first t n es ds _ (omega (arith, size_of_view c.args.definitions.now.entries)) inv.formed made in
     record {
       kinds = c.in_ok-form.ensures.kept ∙ inv.kinds;
-      formed = put_first t n es ds _ (omega (arith, size_of_view c.args.definitions.now.entries)) inv.formed made;
+      formed = formed;
+      rows = rows_formed_more t ds n _ (rows_of c.loop-number.rows) (rows_of c.push_references.new.rows) (omega (arith, size_of_view c.args.definitions.now.entries)) formed inv.rows (c.in_ok-push_references.ensures nothing);
     }
 
-pub returns : goal.returns
-returns c =
+pub returns-clause-rows : goal.returns-clause-rows
+returns-clause-rows c =
     let ds = definitions_view c.args.definitions.now.entries in
-    let t = canonical (becomes_by ds c.args.settled.kinds.items) in
+    let t = canonical (becomes_by ds c.args.kinds.items) in
+    let size : c.loop-number.number ≡ length ds = omega (arith, size_of_view c.args.definitions.now.entries) in
+    all_rows_formed t ds c.loop-number.number (rows_of c.loop-number.rows) (definitions_view c.loop-number.definitions.entries) size (c.loop-number.invariant.formed ∙ all_first t c.loop-number.number ds size) c.loop-number.invariant.rows
+
+pub returns-clause-formed : goal.returns-clause-formed
+returns-clause-formed c =
+    let ds = definitions_view c.args.definitions.now.entries in
+    let t = canonical (becomes_by ds c.args.kinds.items) in
     c.loop-number.invariant.formed ∙ all_first t c.loop-number.number ds (omega (arith, size_of_view c.args.definitions.now.entries))

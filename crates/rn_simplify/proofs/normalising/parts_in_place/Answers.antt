@@ -20,10 +20,10 @@ form_definitions-requires-clause-firsts c =
 pub returns : goal.returns
 returns c =
     let G = grammar_view c.args.grammar in
-    let kinds = c.in_ok-start.settled.kinds.items in
+    let kinds = c.in_ok-start.kinds.items in
     let (rank, settling) = c.in_ok-start.ensures.exact in
     let ds = definitions_view c.into_parts-definitions.result.definitions.entries in
     let fs = definitions_view c.form_definitions.new.definitions.entries in
     let made : fs ≡ map (λ (d : Text × Tree). (d.0, canonical (becomes_by G.definitions kinds) d.1)) ds =
-    c.in_ok-settled.ensures ∙ ap (λ (es : List (Text × Tree)). map (λ (d : Text × Tree). (d.0, canonical (becomes_by es kinds) d.1)) ds) c.into_parts-definitions.ensures.definitions in
+    c.in_ok-rows.ensures.formed ∙ ap (λ (es : List (Text × Tree)). map (λ (d : Text × Tree). (d.0, canonical (becomes_by es kinds) d.1)) ds) c.into_parts-definitions.ensures.definitions in
     canonical_of G (becomes_by G.definitions kinds) rank ds fs (definitions_view c.in_ok-defs.defs.items) G.start (pattern_view c.in_ok-start.start) settling c.into_parts-definitions.ensures.definitions refl c.in_ok-start.ensures.start made c.in_ok-defs.ensures

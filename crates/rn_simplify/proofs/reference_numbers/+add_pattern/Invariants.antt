@@ -1,9 +1,9 @@
-use Rattle.std.proofs.Common.{take}
+use Rattle.std.proofs.Common.{◌≡◌, ◌++◌, take}
 use Rattle.rn_assemble.specs.GrammarView.{definitions_view}
 use Rattle.rn_pattern.specs.View.{shared_trees}
-use Rattle.rn_simplify.specs.inside.ReferenceNumbers.{AddsNumbers, all_reference_numbers}
+use Rattle.rn_simplify.specs.inside.DefinitionNumbers.{all_reference_numbers}
 use Rattle.rn_simplify.proofs.reference_numbers.+add_pattern.Given as goal
 
 abbrev pub invariant-add_patterns-loop-member : goal.invariant-add_patterns-loop-member
 invariant-add_patterns-loop-member l =
-    AddsNumbers (all_reference_numbers (definitions_view l.definitions.entries) (shared_trees (take l.member-index l.members))) l.reach l.initial.found l.found
+    l.found.items ≡ l.initial.found.items ++ all_reference_numbers (definitions_view l.definitions.entries) (shared_trees (take l.member-index l.members))

@@ -1,0 +1,60 @@
+-- The keys that components define, one place after the other.
+use Rattle.std.proofs.Common.{◌≡◌, inl, inr, ℕ, ◌+◌, ◌-◌, ◌≤◌, false, List, [], ◌∷◌, ◌++◌, length, get_or, map, None, Some, refl, sym, ap, ◌∙◌, subst, arith}
+use Rattle.std.specs.List.{AllByRecursion}
+use Rattle.std.proofs.lemmas.List.{map-append}
+use Rattle.rn_text.specs.Texts.{Text}
+use Rattle.rn_assemble.specs.declared.bodies.Body.{Body}
+use Rattle.rn_assemble.specs.Combine.{defined_names}
+use Rattle.rn_assemble.specs.Components.{has_key, name_key}
+use Rattle.rn_assemble.specs.inside.Keyed.{key_at}
+use Rattle.rn_assemble.specs.inside.Listed.{Live, ListsBy, PlacesRise, components_in}
+use Rattle.rn_assemble.specs.inside.Patterns.{IsFirstAt, before}
+use Rattle.rn_assemble.specs.inside.ReferenceOrder.{AreDefinedKeys}
+use Rattle.rn_assemble.specs.inside.Trees.{TreeView}
+use Rattle.rn_assemble.proofs.Joining.DefinedNames.{defined_new}
+use Rattle.rn_assemble.proofs.Joining.FirstComponents.{all_before, before_next, none_before}
+use Rattle.rn_assemble.proofs.Joining.PlacedDefinitions.{no_new_name, number_name, one_more, places_within}
+
+each_behind : {X : Type 0} (P : X → Type 0) (xs : List X) (x : X) → AllByRecursion P xs → P x → AllByRecursion P (xs ++ x ∷ [])
+each_behind P [] x h p = (p, tt)
+each_behind P (y ∷ ys) x h p = (h.0, each_behind P ys x h.1 p)
+
+module _ (names : List Text) (live : List Live) (rises : PlacesRise 0 live) where
+  -- the keys of the components before the place
+  abbrev pub KeysBefore : ℕ → List ℕ → Type 0
+  KeysBefore p keys = AreDefinedKeys names (components_in (before p live)) keys
+
+  pub keys_begin : KeysBefore 0 []
+  keys_begin =
+      let none = ap (λ es. components_in es) (none_before 0 0 live (omega arith) rises) in
+      record { named = sym (ap (λ cs. map name_key (defined_names cs)) none); within = tt }
+
+  pub keys_same : (p : ℕ) (keys : List ℕ) → IsFirstAt names live p None → KeysBefore p keys → KeysBefore (p + 1) keys
+  keys_same p keys f h = elim (before_next p live) [
+    | inl k ↦
+        let more = one_more names live rises p k.0 k.1 k.2 in
+        record {
+          named = h.named ∙ ap (map name_key) (sym (ap defined_names more ∙ no_new_name (components_in (before p live)) k.0.component k.0.component.key refl (f k.0 k.1 k.2)));
+          within = h.within;
+        }
+    | inr s ↦ subst (λ es. AreDefinedKeys names (components_in es) keys) (sym s) h
+  ]
+
+  pub keys_more : (p n : ℕ) (keys : List ℕ) → IsFirstAt names live p (Some n) → KeysBefore p keys → KeysBefore (p + 1) (keys ++ n ∷ [])
+  keys_more p n keys f h =
+      let cs = components_in (before p live) in
+      let x = get_or names (n - 1) [] in
+      let key = number_name names n f.0 in
+      let more = one_more names live rises p f.2.0 f.2.1 f.2.2 in
+      let absent : has_key (name_key x) cs ≡ false = ap (λ k. has_key k cs) (sym key) ∙ f.3 in
+      record {
+        named = map-append (key_at names) keys (n ∷ []) ∙ (λ i. h.named i ++ key i ∷ []) ∙ sym (map-append name_key (defined_names cs) (x ∷ []))
+            ∙ ap (map name_key) (sym (ap defined_names more ∙ defined_new cs f.2.0.component x (f.2.3 ∙ key) absent));
+        within = each_behind _ keys n h.within f.1;
+      }
+
+-- behind the last place
+pub keys_end : {trees : TreeView} (names : List Text) (bodies : List Body) (list : List ℕ) (rows : List (List ℕ)) (live : List Live) (lists : ListsBy names trees bodies list rows live) (p : ℕ) (keys : List ℕ) → length list ≤ p
+    → KeysBefore names live lists.rises p keys → AreDefinedKeys names (components_in live) keys
+keys_end names bodies list rows live lists p keys past h =
+    subst (λ es. AreDefinedKeys names (components_in es) keys) (all_before p live (places_within names bodies list rows live p lists past)) h

@@ -1,0 +1,173 @@
+// The order in which keys, and the definitions of a grammar, can be settled (RELAX NG 2001, 4.19).
+ghost use Rattle.std.specs.Prelude.{ℕ, ◌<◌, ◌≡◌, IfOk, List, length, map, nat_eq, slice_index_or};
+ghost use Rattle.std.specs.List.Sorted.{IsStrictlySortedBy};
+ghost use Rattle.rn_text.specs.Texts.{Text, text_cmp};
+ghost use Rattle.rn_pattern.specs.Graph.{IsGraph, rows_of};
+ghost use Rattle.rn_pattern.specs.Ranks.{HasNoLoop, IsFirstLoop, rank_of};
+ghost use Rattle.rn_assemble.specs.Components.{Component};
+ghost use Rattle.rn_assemble.specs.inside.ReferenceOrder.{AreDefinedKeys, ArePlaces, IsKeyOrder, IsOrderBy, IsReferenceOrder};
+ghost use Rattle.rn_assemble.specs.inside.Referred.{AreAllReferences};
+ghost use Rattle.std.specs.List.{AllByRecursion, IsDistinct};
+ghost use Rattle.rn_assemble.specs.Combine.{joined_grammar};
+ghost use Rattle.rn_assemble.specs.SettlingOrder.{IsSettlingOrder};
+ghost use Rattle.rn_assemble.specs.inside.Listed.{OfKeys};
+
+use crate::components::{Components, Near};
+use crate::keys::{Keys, START};
+use crate::likely_references::LikelyReferences;
+use rn_pattern::graph::{marked_rows, reached_nodes};
+use rn_pattern::ranks::{Order, least_looped, ranks};
+use rn_pattern::{ReferenceRows, Rows};
+use std::alloc::{AllocError, Global};
+
+/// References to names that are all defined, none of which start reaches and comes back to itself outside elements.
+#[derive(Drop)]
+pub(crate) struct SoundReferences {
+    /// For each key, the keys that it refers to.
+    pub everywhere: Rows,
+    /// The keys that start reaches, each behind those that it refers to outside elements.
+    pub order: Vec<usize>,
+}
+
+/// An order of keys, or what stands against one.
+#[derive(Drop)]
+pub(crate) enum KeyOrder {
+    /// The keys that start reaches, each behind those that it refers to outside elements.
+    Ordered(Vec<usize>),
+    /// The least key that start reaches and that comes back to itself by references outside elements.
+    Recursive(usize),
+}
+
+/// The keys that start reaches in an order in which each comes behind those that it refers to outside elements, or the
+/// least that comes back to itself by such references.
+pub(crate) fn key_order(alloc: Global, references: &ReferenceRows) -> Result<KeyOrder, AllocError>
+    requires everywhere { IsGraph (rows_of references.now.everywhere) }
+    requires some { 0 < length (rows_of references.now.everywhere) }
+    requires outside { IsGraph (rows_of references.now.outside) }
+    requires size { length (rows_of references.now.outside)
+        ≡ length (rows_of references.now.everywhere) }
+    ensures { (names : List Text) (cs : List Component) → IsStrictlySortedBy text_cmp names
+        → AreAllReferences names cs (rows_of references.now.everywhere)
+        (rows_of references.now.outside) → IfOk result (IsKeyOrder names cs) }
+{
+    let first = references.everywhere.row(START);
+    let reached = reached_nodes(alloc, &references.everywhere, first)?;
+    let outside = marked_rows(alloc, &references.outside, reached.as_slice())?;
+    match ranks(alloc, &outside)? {
+        Order::Ranked(ranks) => {
+            let order = marked_in_order(alloc, reached.as_slice(), ranks.as_slice())?;
+            Ok(KeyOrder::Ordered(order))
+        }
+        Order::Looped(_) => Ok(KeyOrder::Recursive(least_on_loop(alloc, &outside)?)),
+    }
+}
+
+/// The least node that comes back to itself, in a graph that has a loop.
+fn least_on_loop(alloc: Global, edges: &Rows) -> Result<usize, AllocError>
+    requires graph { IsGraph (rows_of edges.now) }
+    requires looped { ¬ HasNoLoop (rows_of edges.now) }
+    ensures { IfOk result (IsFirstLoop (rows_of edges.now)) }
+{
+    let least = least_looped(alloc, edges)?;
+    Ok(least.unwrap())
+}
+
+/// The places that have a mark, by the ranks of these.
+fn marked_in_order(alloc: Global, marks: &[bool], ranks: &[usize]) -> Result<Vec<usize>, AllocError>
+    ensures { IfOk result (λ v. IsOrderBy marks.now (rank_of ranks.now) v.items) }
+{
+    let mut order = marked_places(alloc, marks)?;
+    order.sort_by_key(|place: &usize| ranks.get(*place).copied().unwrap_or(0))?;
+    Ok(order)
+}
+
+/// The places that have a mark.
+fn marked_places(alloc: Global, marks: &[bool]) -> Result<Vec<usize>, AllocError>
+    ensures { IfOk result (λ v. ArePlaces marks.now v.items) }
+{
+    let mut places = Vec::new(alloc);
+    for place in 0..marks.len() {
+        if marks[place] {
+            places.push(place)?;
+        }
+    }
+    Ok(places)
+}
+
+/// The order in which the definitions of a grammar can be settled, and what they refer to.
+#[derive(Drop)]
+pub(crate) struct SettlingOrder {
+    /// The numbers of the definitions that the start reaches, each behind those that it refers to outside elements.
+    pub numbers: Vec<usize>,
+    /// Where to look first for what is referred to.
+    pub likely: LikelyReferences,
+}
+
+/// The order in which the definitions that the components are joined to can be settled, from that of their keys.
+pub(crate) fn settling_order(
+    alloc: Global,
+    keys: &Keys<'_>,
+    components: &Components<'_, '_, '_>,
+    references: SoundReferences,
+) -> Result<SettlingOrder, AllocError>
+    ensures { OfKeys keys.now components.now (λ names cs.
+        IsReferenceOrder names cs references.order.items
+        → IfOk result (λ s. IsSettlingOrder (joined_grammar cs) s.numbers.items)) }
+{
+    let SoundReferences { everywhere, order } = references;
+    let defined = defined_keys(alloc, components)?;
+    let numbers = definition_numbers(alloc, keys.len(), &defined)?;
+    let likely = LikelyReferences::new(alloc, &everywhere, &defined, &numbers)?;
+    let numbers = numbers_of(alloc, &order, &numbers)?;
+    Ok(SettlingOrder { numbers, likely })
+}
+
+/// The keys of the names that the components define, in the order of each one's first component.
+fn defined_keys(
+    alloc: Global,
+    components: &Components<'_, '_, '_>,
+) -> Result<Vec<usize>, AllocError>
+    ensures { (keys : Keys) → OfKeys keys components.now
+        (λ names cs. IfOk result (λ v. AreDefinedKeys names cs v.items)) }
+{
+    let mut keys = Vec::new(alloc);
+    let mut near = Near::default();
+    for place in 0..components.count() {
+        if let Some(key) = components.first_at(place, &mut near) {
+            keys.push(key)?;
+        }
+    }
+    Ok(keys)
+}
+
+/// For each of that many keys, the index of it among the defined ones; 0 for those that aren't among them.
+fn definition_numbers(
+    alloc: Global,
+    count: usize,
+    defined: &[usize],
+) -> Result<Vec<usize>, AllocError>
+    ensures { IsDistinct nat_eq defined.now → AllByRecursion (λ k. k < count) defined.now
+        → IfOk result (λ v. (i : ℕ) → i < length defined.now
+        → slice_index_or v.items (slice_index_or defined.now i 0) 0 ≡ i) }
+{
+    let mut numbers = vec![in alloc; 0; count]?;
+    for number in 0..defined.len() {
+        let key = defined[number];
+        if key < numbers.len() {
+            numbers[key] = number;
+        }
+    }
+    Ok(numbers)
+}
+
+/// The number of each of the keys.
+fn numbers_of(alloc: Global, keys: &[usize], numbers: &[usize]) -> Result<Vec<usize>, AllocError>
+    ensures { IfOk result (λ v. v.items
+        ≡ map (λ k. slice_index_or numbers.now k 0) keys.now) }
+{
+    let mut found = Vec::with_capacity(alloc, keys.len())?;
+    for key in keys {
+        found.push(numbers.get(*key).copied().unwrap_or(0))?;
+    }
+    Ok(found)
+}
