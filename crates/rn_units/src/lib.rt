@@ -27,6 +27,8 @@ pub mod samples;
 #[cfg(test)]
 mod sets;
 #[cfg(test)]
+mod settling_orders;
+#[cfg(test)]
 mod sizes;
 #[cfg(test)]
 mod steps;

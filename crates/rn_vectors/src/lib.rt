@@ -32,6 +32,8 @@ mod refusals;
 #[cfg(test)]
 mod repeats;
 #[cfg(test)]
+mod settling;
+#[cfg(test)]
 mod streams;
 #[cfg(test)]
 mod tables;
