@@ -95,6 +95,19 @@ pub fn tokens<'a>(alloc: Global, src: &'a [u8]) -> Result<Vec<Token<'a>>, TextFa
     ensures { MatchResult result (λ found. IsUtf8 src.now
         × HasTokens (chars src.now) (map lexeme_of found.items)) (HasFault src.now) }
 {
+    let mut found = Vec::new(alloc);
+    read_tokens(src, &mut found)?;
+    Ok(found)
+}
+
+/// Puts the tokens of a source into `found`, in the place of what it held, as [`tokens`] answers them. So whoever reads
+/// one source after the other asks for their memory once. Where the source is refused, `found` holds some of its tokens
+/// at most.
+pub fn read_tokens<'a>(src: &'a [u8], found: &mut Vec<Token<'a>>) -> Result<(), TextFault>
+    ensures { MatchResult result (λ _. IsUtf8 src.now
+        × HasTokens (chars src.now) (map lexeme_of found.new.items)) (HasFault src.now) }
+{
+    found.clear();
     let text = match simdutf8::compat::from_utf8(src) {
         Ok(text) => text,
         Err(e) => return Err(TextFault::Encoding {
@@ -107,7 +120,6 @@ pub fn tokens<'a>(alloc: Global, src: &'a [u8]) -> Result<Vec<Token<'a>>, TextFa
             at: text.len() - wrong.len(),
         });
     }
-    let mut found = Vec::new(alloc);
     let mut rest = without_mark(text);
     while !rest.is_empty() {
         let start = text.len() - rest.len();
@@ -126,5 +138,5 @@ pub fn tokens<'a>(alloc: Global, src: &'a [u8]) -> Result<Vec<Token<'a>>, TextFa
         }
         rest = after;
     }
-    Ok(found)
+    Ok(())
 }
