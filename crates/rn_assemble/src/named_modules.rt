@@ -15,7 +15,7 @@ ghost use Rattle.rn_assemble.specs.inside.Views.{AreInOrder, module_names, modul
 use crate::refusal::Refusal;
 use rn_modset::ModuleSet;
 use rn_syntax::{Item, Module, SyntaxFault, parse};
-use rn_text::{TextFault, tokens};
+use rn_text::{TextFault, Token, read_tokens};
 use std::alloc::{AllocError, Global};
 
 /// An effective module: its name and its tree.
@@ -26,7 +26,8 @@ pub(crate) struct NamedModule<'a> {
 }
 
 /// The effective modules, in the order of their names. Or the first refusal of the set, where that is a conflict or the
-/// first fault of a text: the fault of the least name whose module has one.
+/// first fault of a text: the fault of the least name whose module has one. One module's tokens take the memory of those
+/// before.
 pub(crate) fn read_modules<'a>(
     alloc: Global,
     set: &'a ModuleSet,
@@ -37,9 +38,10 @@ pub(crate) fn read_modules<'a>(
 {
     let effective_modules = set.effective(alloc)?;
     let mut modules = Vec::new(alloc);
+    let mut tokens = Vec::new(alloc);
     for module in effective_modules.iter() {
         let (name, text) = *module;
-        let tree = read_module(alloc, name, text)?;
+        let tree = read_module(alloc, name, text, &mut tokens)?;
         modules.push(NamedModule { name, tree })?;
     }
     Ok(modules)
@@ -74,15 +76,19 @@ pub(crate) fn split_items<'a>(
     Ok((heads, all))
 }
 
-/// The tree of a module's text, or the refusal of its first fault. Its tokens are given up here.
-fn read_module<'a>(alloc: Global, name: &str, text: &'a [u8]) -> Result<Module<'a>, Refusal>
+/// The tree of a module's text, or the refusal of its first fault. Its tokens take the place of what `tokens` held.
+fn read_module<'a>(
+    alloc: Global,
+    name: &str,
+    text: &'a [u8],
+    tokens: &mut Vec<Token<'a>>,
+) -> Result<Module<'a>, Refusal>
     ensures { MatchResult result (λ tree. IsRead text.now (module_view tree))
         (IsFaultOf name.now text.now) }
 {
-    let tokens = match tokens(alloc, text) {
-        Ok(tokens) => tokens,
-        Err(fault) => return Err(refusal_of_text_fault(String::from_str(alloc, name)?, fault)),
-    };
+    if let Err(fault) = read_tokens(text, tokens) {
+        return Err(refusal_of_text_fault(String::from_str(alloc, name)?, fault));
+    }
     match parse(alloc, tokens.as_slice()) {
         Ok(tree) => Ok(tree),
         Err(fault) => Err(refusal_of_syntax_fault(String::from_str(alloc, name)?, fault)),

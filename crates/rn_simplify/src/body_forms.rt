@@ -5,6 +5,7 @@ ghost use Rattle.rn_assemble.specs.GrammarView.{definitions_view, grammar_view};
 ghost use Rattle.rn_pattern.specs.Tree.{Tree};
 ghost use Rattle.rn_text.specs.Texts.{Text};
 ghost use Rattle.rn_pattern.specs.View.{pattern_view};
+ghost use Rattle.rn_simplify.specs.inside.Contents.{form_or};
 ghost use Rattle.rn_simplify.specs.inside.FormKinds.{settled_form};
 ghost use Rattle.rn_simplify.specs.inside.Repeats.{AreFirstsOf};
 
@@ -12,13 +13,12 @@ use crate::definition_numbers::Likely;
 use crate::definitions::{body_of, name_of};
 use crate::normalising::stored_body_form;
 use crate::settled_definitions::SettledDefinitions;
-use crate::tree_forms::tree_form;
+use crate::tree_forms::{form_of, form_or_copy};
 use rn_assemble::Grammar;
 use rn_pattern::{Interned, Pattern};
 use std::alloc::{AllocError, Global};
 
-/// The canonical form of a body. One with a member that stands in its list before is made in a store of its own, where
-/// members that are alike have one id.
+/// The canonical form of a body.
 pub(crate) fn body_form(
     alloc: Global,
     settled: &SettledDefinitions<'_>,
@@ -30,11 +30,29 @@ pub(crate) fn body_form(
     ensures { IfOk result (λ p. pattern_view p ≡ settled_form settled.now
         (pattern_view body.now)) }
 {
+    let made = changed_form(alloc, settled, likely, body, firsts)?;
+    form_or_copy(alloc, made, body)
+}
+
+/// The canonical form of a body, or `None` where that is the body itself. One with a member that stands in its list
+/// before is made in a store of its own, where members that are alike have one id.
+pub(crate) fn changed_form(
+    alloc: Global,
+    settled: &SettledDefinitions<'_>,
+    likely: &mut Likely<'_>,
+    body: &Pattern,
+    firsts: &[u32],
+) -> Result<Option<Pattern>, AllocError>
+    requires { AreFirstsOf firsts.now body.now }
+    ensures { IfOk result (λ made. form_or made (pattern_view body.now)
+        ≡ settled_form settled.now (pattern_view body.now)) }
+{
     if firsts.is_empty() {
-        return tree_form(alloc, settled, likely, body);
+        return form_of(alloc, settled, likely, body);
     }
     let mut store = Interned::with_seed(alloc, *settled.definitions.hasher());
-    stored_body_form(alloc, &mut store, settled, body, firsts)
+    let form = stored_body_form(alloc, &mut store, settled, body, firsts)?;
+    Ok(Some(form))
 }
 
 /// The canonical forms of the definitions, in their order.

@@ -1,5 +1,6 @@
 // Canonical forms in the place of the bodies that they are made of, so that no two definitions have both.
 ghost use Rattle.std.specs.Prelude.{◌≡◌, ◌<◌, ◌++◌, ◌∷◌, [], ℕ, IfOk, OnOk, length, map, slice_index_or};
+ghost use Rattle.indexmap.specs.IndexMap.{set_value_at};
 ghost use Rattle.rn_assemble.specs.Firsts.{AreFirsts, HaveFirsts, joined_members};
 ghost use Rattle.rn_assemble.specs.GrammarView.{definitions_view, grammar_view};
 ghost use Rattle.rn_pattern.specs.Canonical.{canonical};
@@ -8,10 +9,11 @@ ghost use Rattle.rn_pattern.specs.Tree.{Tree};
 ghost use Rattle.rn_text.specs.Texts.{Text};
 ghost use Rattle.rn_pattern.specs.View.{pattern_view};
 ghost use Rattle.rn_simplify.specs.Settling.{IsSettling};
+ghost use Rattle.rn_simplify.specs.inside.Contents.{form_or};
 ghost use Rattle.rn_simplify.specs.inside.DefinitionNumbers.{reference_numbers, rows_by};
 ghost use Rattle.rn_simplify.specs.inside.FormKinds.{becomes_by, settled_definitions};
 
-use crate::body_forms::body_form;
+use crate::body_forms::{body_form, changed_form};
 use crate::definition_numbers::Likely;
 use crate::definitions::body_of;
 use crate::evaluation::settle_all;
@@ -63,12 +65,24 @@ pub(crate) fn form_definitions(
     let mut row = Vec::new(alloc);
     for number in 0..definitions.len() {
         let first_members = firsts_at(firsts, number);
-        let (form, kept) = form_at(alloc, definitions, likely, kinds, number, first_members)?;
-        definitions[number] = form;
+        let (made, kept) = form_at(alloc, definitions, likely, kinds, number, first_members)?;
         kinds = kept;
+        put_form(definitions, number, made);
         push_references(definitions, likely, number, &mut row, &mut rows)?;
     }
     Ok(rows)
+}
+
+/// Puts the form of the definition with a number in the place of its body, if it is another.
+fn put_form(definitions: &mut Definitions, number: usize, made: Option<Pattern>)
+    requires { number < length definitions.old.entries }
+    ensures { (d : Text × Tree) → definitions_view definitions.new.entries
+        ≡ set_value_at (definitions_view definitions.old.entries) number (form_or made.entry
+        (slice_index_or (definitions_view definitions.old.entries) number d).1) }
+{
+    if let Some(form) = made {
+        definitions[number] = form;
+    }
 }
 
 /// Adds the row of the definitions that the one with a number refers to. What `row` held is lost.
@@ -100,7 +114,7 @@ fn firsts_at(firsts: &[Vec<u32>], number: usize) -> &[u32]
     }
 }
 
-/// The form of the definition with a number. The kinds are handed back with it.
+/// The form of the definition with a number, or `None` where that is its body. The kinds are handed back with it.
 fn form_at(
     alloc: Global,
     definitions: &Definitions,
@@ -108,12 +122,13 @@ fn form_at(
     kinds: Vec<FormKind>,
     number: usize,
     firsts: &[u32],
-) -> Result<(Pattern, Vec<FormKind>), AllocError>
+) -> Result<(Option<Pattern>, Vec<FormKind>), AllocError>
     requires within { number < length definitions.now.entries }
     requires sized { length kinds.items ≡ length definitions.now.entries }
     requires firsts { (d : Text × Tree) → AreFirsts firsts.now (joined_members
         (slice_index_or (definitions_view definitions.now.entries) number d).1) }
-    ensures made { IfOk result (λ r. (d : Text × Tree) → pattern_view r.0
+    ensures made { IfOk result (λ r. (d : Text × Tree) → form_or r.0
+        (slice_index_or (definitions_view definitions.now.entries) number d).1
         ≡ canonical (becomes_by (definitions_view definitions.now.entries) kinds.items)
         (slice_index_or (definitions_view definitions.now.entries) number d).1) }
     ensures kept { IfOk result (λ r. r.1.items ≡ kinds.items) }
@@ -125,6 +140,6 @@ fn form_at(
     };
     let mut numbers = Likely::of(likely.of_definition(number));
     let body = body_of(definitions, number);
-    let form = body_form(alloc, &settled, &mut numbers, body, firsts)?;
-    Ok((form, settled.kinds))
+    let made = changed_form(alloc, &settled, &mut numbers, body, firsts)?;
+    Ok((made, settled.kinds))
 }

@@ -20,22 +20,8 @@ use rn_pattern::{NameClass, Pattern};
 use std::alloc::{AllocError, Global};
 use std::rc::Rc;
 
-/// The canonical form of a pattern.
-pub(crate) fn tree_form(
-    alloc: Global,
-    settled: &SettledDefinitions<'_>,
-    likely: &mut Likely<'_>,
-    pattern: &Pattern,
-) -> Result<Pattern, AllocError>
-    ensures { IfOk result (λ p. pattern_view p ≡ settled_form settled.now
-        (pattern_view pattern.now)) }
-{
-    let made = form_of(alloc, settled, likely, pattern)?;
-    form_or_copy(alloc, made, pattern)
-}
-
 /// The form, or a copy of the pattern where there is none.
-fn form_or_copy(
+pub(crate) fn form_or_copy(
     alloc: Global,
     made: Option<Pattern>,
     pattern: &Pattern,
@@ -50,7 +36,7 @@ fn form_or_copy(
 
 /// The canonical form of a pattern, or `None` where that is the pattern itself.
 #[cycle(form_of)]
-fn form_of(
+pub(crate) fn form_of(
     alloc: Global,
     settled: &SettledDefinitions<'_>,
     likely: &mut Likely<'_>,

@@ -1,6 +1,6 @@
 // The tokens of sources, or their faults, and long sources.
 use crate::samples::repeated;
-use rn_text::{Token, tokens};
+use rn_text::{Token, read_tokens, tokens};
 use std::alloc::{AllocError, Global};
 use std::process::Abort;
 
@@ -97,6 +97,28 @@ static SOURCES: [(&str, &str); 38] = [
 fn sources_are_cut(rt: HostRuntime) {
     for (source, wanted) in &SOURCES {
         is_cut(&rt, source.as_bytes(), wanted);
+    }
+}
+
+/// The source's tokens take the place of those that are held: they are these, or there is this fault.
+fn is_cut_behind<'a>(
+    rt: &(impl Abort + AllocGlobal),
+    found: &mut Vec<Token<'a>>,
+    src: &'a [u8],
+    wanted: &str,
+) {
+    let lines = match read_tokens(src, found) {
+        Ok(()) => token_lines(rt.alloc(), found.as_slice()),
+        Err(fault) => format!(in rt.alloc(); "{fault:?}"),
+    };
+    assert_eq!(rt; lines.expect(rt, "no memory").as_str(), wanted);
+}
+
+#[test]
+fn sources_are_cut_one_behind_the_other(rt: HostRuntime) {
+    let mut found = Vec::new(rt.alloc());
+    for (source, wanted) in &SOURCES {
+        is_cut_behind(&rt, &mut found, source.as_bytes(), wanted);
     }
 }
 

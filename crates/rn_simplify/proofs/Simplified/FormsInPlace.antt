@@ -18,6 +18,26 @@ use Rattle.rn_simplify.specs.declared.form_kind.FormKind.{FormKind}
 use Rattle.rn_simplify.proofs.Simplified.DefinitionNumbers.{size_of_view}
 use Rattle.rn_simplify.proofs.Simplified.ReferenceGraph.{nothing}
 
+size_set : (ds : List (Text × Tree)) (n : ℕ) (p : Tree) → length (set_value_at ds n p) ≡ length ds
+size_set [] n p = refl
+size_set (d ∷ ds) zero p = refl
+size_set (d ∷ ds) (suc n) p = ap suc (size_set ds n p)
+
+-- there are as many definitions as before one got another body
+pub size_put : (es new : List (String Global × Pattern)) (n : ℕ) (p : Tree) → definitions_view new ≡ set_value_at (definitions_view es) n p → length new ≡ length es
+size_put es new n p put = sym (size_of_view new) ∙ ap length put ∙ size_set (definitions_view es) n p ∙ size_of_view es
+
+pub set_view : (es : List (String Global × Pattern)) (n : ℕ) (w : Pattern) → definitions_view (set_value_at es n w) ≡ set_value_at (definitions_view es) n (pattern_view w)
+set_view [] n w = refl
+set_view (e ∷ es) zero w = refl
+set_view (e ∷ es) (suc n) w = ap (λ ds. (string_bytes e.0, pattern_view e.1) ∷ ds) (set_view es n w)
+
+-- a definition that gets its own body stays
+pub set_same : (ds : List (Text × Tree)) (n : ℕ) (d : Text × Tree) → n < length ds → set_value_at ds n (get_or ds n d).1 ≡ ds
+set_same [] n d l = absurd (omega (arith, l))
+set_same (e ∷ es) zero d l = refl
+set_same (e ∷ es) (suc n) d l = ap (λ fs. e ∷ fs) (set_same es n d (omega (arith, l)))
+
 module _ (form : Tree → Tree) where
   -- the forms of the first n, and the others as they are
   abbrev pub first_formed : ℕ → List (Text × Tree) → List (Text × Tree)
@@ -64,22 +84,12 @@ module _ (form : Tree → Tree) where
   pub all_first : (n : ℕ) (ds : List (Text × Tree)) → n ≡ length ds → first_formed n ds ≡ map (λ (d : Text × Tree). (d.0, form d.1)) ds
   all_first n ds e = ap (λ m. first_formed m ds) e ∙ all_formed ds
 
-  pub size_put : (es : List (String Global × Pattern)) (n : ℕ) (w : Pattern) → length (set_value_at es n w) ≡ length es
-  size_put [] n w = refl
-  size_put (e ∷ es) zero w = refl
-  size_put (e ∷ es) (suc n) w = ap suc (size_put es n w)
-
-  set_view : (es : List (String Global × Pattern)) (n : ℕ) (w : Pattern) → definitions_view (set_value_at es n w) ≡ set_value_at (definitions_view es) n (pattern_view w)
-  set_view [] n w = refl
-  set_view (e ∷ es) zero w = refl
-  set_view (e ∷ es) (suc n) w = ap (λ ds. (string_bytes e.0, pattern_view e.1) ∷ ds) (set_view es n w)
-
   -- the form of the one with the number n is put in the place of its body
-  pub put_first : (n : ℕ) (es : List (String Global × Pattern)) (ds : List (Text × Tree)) (w : Pattern) → n < length ds → definitions_view es ≡ first_formed n ds → pattern_view w ≡ form (get_or ds n nothing).1
-      → definitions_view (set_value_at es n w) ≡ first_formed (n + 1) ds
-  put_first n es ds w l e made =
+  pub put_first : (n : ℕ) (es new : List (String Global × Pattern)) (ds : List (Text × Tree)) (p : Tree) → n < length ds → definitions_view es ≡ first_formed n ds → p ≡ form (get_or ds n nothing).1
+      → definitions_view new ≡ set_value_at (definitions_view es) n p → definitions_view new ≡ first_formed (n + 1) ds
+  put_first n es new ds p l e made put =
       let next : suc n ≡ n + 1 = omega arith in
-      set_view es n w ∙ ap (λ fs. set_value_at fs n (pattern_view w)) e ∙ more_first n ds (pattern_view w) l made ∙ ap (λ m. first_formed m ds) next
+      put ∙ ap (λ fs. set_value_at fs n p) e ∙ more_first n ds p l made ∙ ap (λ m. first_formed m ds) next
 
 -- what references become rests on the names of definitions, and not on their bodies
 pub becomes_same : (ds es : List (Text × Tree)) (kinds : List FormKind) → map (λ (d : Text × Tree). d.0) es ≡ map (λ (d : Text × Tree). d.0) ds → becomes_by es kinds ≡ becomes_by ds kinds

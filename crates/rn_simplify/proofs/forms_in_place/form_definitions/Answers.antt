@@ -33,15 +33,15 @@ form_at-requires-clause-firsts c = λ d.
     subst (λ p. AreFirsts c.firsts_at-first_members.result.now (joined_members p)) (sym (ap (λ (e : Text × Tree). e.1) same))
     (subst (λ is. AreFirsts is (joined_members (get_or ds n d).1)) (sym c.firsts_at-first_members.ensures) (c.requires.firsts n d (omega (arith, size_of_view c.args.definitions.now.entries))))
 
-pub index_mut-requires : goal.index_mut-requires
-index_mut-requires c =
+pub put_form-requires : goal.put_form-requires
+put_form-requires c =
     let t = canonical (becomes_by (definitions_view c.args.definitions.now.entries) c.args.kinds.items) in
     omega (arith, entries_first t c.loop-number.number c.loop-number.definitions.entries c.args.definitions.now.entries c.loop-number.invariant.formed)
 
 pub push_references-requires : goal.push_references-requires
 push_references-requires c =
     let t = canonical (becomes_by (definitions_view c.args.definitions.now.entries) c.args.kinds.items) in
-    omega (arith, size_put t c.loop-number.definitions.entries c.loop-number.number c.in_ok-form.form, entries_first t c.loop-number.number c.loop-number.definitions.entries c.args.definitions.now.entries c.loop-number.invariant.formed)
+    omega (arith, size_put c.loop-number.definitions.entries c.put_form.new.definitions.entries c.loop-number.number _ (c.put_form.ensures nothing), entries_first t c.loop-number.number c.loop-number.definitions.entries c.args.definitions.now.entries c.loop-number.invariant.formed)
 
 pub loop-number-preserved : goal.loop-number-preserved
 loop-number-preserved c =
@@ -54,10 +54,10 @@ loop-number-preserved c =
     let becomes : becomes_by (definitions_view es) c.loop-number.kinds.items ≡ becomes_by ds kinds =
     ap (becomes_by (definitions_view es)) inv.kinds ∙ becomes_same ds (definitions_view es) kinds (ap (map (λ (d : Text × Tree). d.0)) inv.formed ∙ names_first t n ds) in
     let body : get_or (definitions_view es) n nothing ≡ get_or ds n nothing = ap (λ fs. get_or fs n nothing) inv.formed ∙ body_first t n ds nothing in
-    let made = c.in_ok-form.ensures.made nothing ∙ (λ i. canonical (becomes i) (body i).1) in
-    let formed = put_first t n es ds _ (omega (arith, size_of_view c.args.definitions.now.entries)) inv.formed made in
+    let made = c.in_ok-made.ensures.made nothing ∙ (λ i. canonical (becomes i) (body i).1) in
+    let formed = put_first t n es c.put_form.new.definitions.entries ds _ (omega (arith, size_of_view c.args.definitions.now.entries)) inv.formed made (c.put_form.ensures nothing) in
     record {
-      kinds = c.in_ok-form.ensures.kept ∙ inv.kinds;
+      kinds = c.in_ok-made.ensures.kept ∙ inv.kinds;
       formed = formed;
       rows = rows_formed_more t ds n _ (rows_of c.loop-number.rows) (rows_of c.push_references.new.rows) (omega (arith, size_of_view c.args.definitions.now.entries)) formed inv.rows (c.in_ok-push_references.ensures nothing);
     }
