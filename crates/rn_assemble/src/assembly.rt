@@ -139,7 +139,6 @@ fn combine_modules<'s>(
         &likely_numbers,
         &constants,
     )?;
-    drop(likely_numbers);
     let components = components_of(
         alloc,
         contents.as_slice(),
@@ -147,7 +146,14 @@ fn combine_modules<'s>(
         roots.as_slice(),
         keys.len(),
     )?;
-    combine_keys(alloc, modules.as_slice(), &keys, &components, &mut trees)
+    combine_keys(
+        alloc,
+        modules.as_slice(),
+        &keys,
+        &likely_numbers,
+        &components,
+        &mut trees,
+    )
 }
 
 /// The combined patterns of the modules' components, or the first refusal that stands for them. The modules may be
@@ -156,6 +162,7 @@ fn combine_keys<'s>(
     alloc: Global,
     modules: &[NamedModule<'_>],
     keys: &Keys<'s>,
+    likely_numbers: &[usize],
     components: &Components<'_, '_, 's>,
     trees: &mut Trees<'s>,
 ) -> Result<Combined<'s>, Refusal>
@@ -167,7 +174,7 @@ fn combine_keys<'s>(
 {
     check_overrides(alloc, modules, keys, components.lack)?;
     check_methods(alloc, keys, components)?;
-    let references = check_references(alloc, keys, components, trees)?;
+    let references = check_references(alloc, keys, likely_numbers, components, trees)?;
     let order = settling_order(alloc, keys, components, references)?;
     combined_grammar(alloc, keys, components, trees, order)
 }
@@ -226,6 +233,7 @@ fn check_methods(
 fn check_references<'s>(
     alloc: Global,
     keys: &Keys<'s>,
+    likely_numbers: &[usize],
     components: &Components<'_, '_, 's>,
     trees: &Trees<'s>,
 ) -> Result<SoundReferences, Refusal>
@@ -233,7 +241,7 @@ fn check_references<'s>(
         (λ names cs. MatchResult result (λ r. HasSoundReferences cs
         × IsReferenceOrder names cs r.order.items) (IsUnsound cs)) }
 {
-    let references = references_of(alloc, keys, components, trees)?;
+    let references = references_of(alloc, keys, likely_numbers, components, trees)?;
     match key_order(alloc, &references)? {
         KeyOrder::Ordered(order) => Ok(SoundReferences {
             everywhere: references.everywhere,

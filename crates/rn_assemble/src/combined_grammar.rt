@@ -1,5 +1,5 @@
 // The combined patterns of a set, which stand without the trees of its modules.
-ghost use Rattle.rn_pattern.specs.View.{boxed_view};
+ghost use Rattle.rn_pattern.specs.View.{pattern_view};
 ghost use Rattle.rn_assemble.specs.Firsts.{joined_members};
 ghost use Rattle.rn_assemble.specs.SettlingOrder.{IsSettlingOrder};
 ghost use Rattle.rn_assemble.specs.inside.OneProof.{IsSettlingOrder-prop};
@@ -14,6 +14,7 @@ use rn_pattern::Pattern;
 pub(crate) struct CombinedDefinition<'s> {
     /// The name, in the text of a module that defines it.
     pub name: &'s str,
+    /// Its components combined (RELAX NG 2001, 4.17).
     pub pattern: Pattern,
 }
 
@@ -21,7 +22,7 @@ pub(crate) struct CombinedDefinition<'s> {
 /// members are the same.
 #[derive(Drop)]
 pub(crate) struct Combined<'s> {
-    pub start: Box<Pattern>,
+    pub start: Pattern,
     /// The names with their combined patterns, in the order of each name's first component.
     pub definitions: Vec<CombinedDefinition<'s>>,
     /// For each member of the start, the first one with its body.
@@ -30,10 +31,10 @@ pub(crate) struct Combined<'s> {
     pub firsts: Vec<Vec<u32>>,
     /// The order in which the definitions can be settled, and what they refer to.
     pub order: SettlingOrder,
-    ghost start_tied: { AreTied start_firsts.items (joined_members (boxed_view start)) } by { AreTied-prop _ _ },
+    ghost start_tied: { AreTied start_firsts.items (joined_members (pattern_view start)) } by { AreTied-prop _ _ },
     ghost tied: { HaveTied (firsts_of firsts.items) (combined_definitions definitions.items) } by { HaveTied-prop _ _ },
     ghost in_order: { IsSettlingOrder (record {
-      start = boxed_view start;
+      start = pattern_view start;
       definitions = combined_definitions definitions.items;
     }) order.numbers.items } by { IsSettlingOrder-prop _ _ },
 }

@@ -1,129 +1,31 @@
 // Definitions of one key combined (RELAX NG 2001, 4.17).
-ghost use Rattle.std.specs.Prelude.{◌≡◌, ◌↔◌, ◌+◌, ◌<◌, List, None, IsTrue, length, map, slice_get, IfOk, IfSome, IsSomeAnd, MatchOption, MatchResult, ⊤};
-ghost use Rattle.std.specs.List.Sorted.{IsStrictlySortedBy};
+ghost use Rattle.std.specs.Prelude.{◌≡◌, ◌+◌, ◌<◌, List, None, length, map, slice_get, IfOk, IfSome, IsSomeAnd, MatchOption, MatchResult, ⊤};
 ghost use Rattle.rn_pattern.specs.Graph.{row};
-ghost use Rattle.rn_text.specs.Texts.{Text, text_cmp};
-ghost use Rattle.rn_pattern.specs.View.{shared_view, boxed_view, shared_trees};
+ghost use Rattle.rn_text.specs.Texts.{Text};
+ghost use Rattle.rn_pattern.specs.View.{pattern_view, shared_view, shared_trees};
 ghost use Rattle.rn_syntax.specs.Tree.{empty};
 ghost use Rattle.rn_assemble.specs.Combine as spec;
 ghost use Rattle.rn_assemble.specs.inside.Keyed.{key_at};
 ghost use Rattle.rn_assemble.specs.inside.Patterns.{AreShared, AreSharedBy, AreWellNamed, IsKeptOrNoted, IsKeptPattern, IsMisnamedAs, IsMisnamedAt, IsMisnamedBy, IsWellNamed, MayHold, WithShared, lesser};
 ghost use Rattle.rn_assemble.specs.inside.Views.{names_of};
 ghost use Rattle.rn_assemble.specs.inside.Tied.{body_of};
-ghost use Rattle.rn_assemble.specs.inside.Methods.{IsLeastNumber, is_method};
 ghost use Rattle.rn_assemble.specs.inside.ContextBindings.{InContext};
-ghost use Rattle.rn_assemble.specs.inside.Listed.{AreGivenUp, AtKey, Lists, Live, OfBody, WithBody, components_in};
+ghost use Rattle.rn_assemble.specs.inside.Listed.{AreGivenUp, AtKey, OfBody, WithBody};
 ghost use Rattle.rn_assemble.specs.inside.Trees.{AgreeAt, AgreeElsewhere, StillGone, TreeView, trees_by};
 ghost use Rattle.rn_assemble.specs.Resolve.{resolved_pattern};
 
 use crate::bodies::Body;
 use crate::components::{Components, Near};
 use crate::keys::Keys;
-use crate::nodes::{box_pattern, choice, interleave, share_pattern};
+use crate::nodes::{choice, interleave, share_pattern};
 use crate::refusal::Refusal;
-use crate::resolution::pattern;
+use crate::resolution::resolve_pattern;
 use crate::trees::Trees;
 use rn_pattern::Pattern;
 use rn_pattern::name_classes::keeps_name_rules;
 use rn_syntax::Method;
 use std::alloc::{AllocError, Global};
 use std::rc::Rc;
-
-impl<'c, 't, 's> Components<'c, 't, 's> {
-    /// The method of a key's component, by its index among those of the key.
-    fn method(&self, key: usize, index: usize, near: &mut Near) -> Option<Method>
-        ensures { (names : List Text) → WithBody names self.now
-            (body_of self.now.list (row self.now.places.items key) index)
-            (λ trees e. result ≡ Some e.component.method) }
-    {
-        let number = self.body_of(key, index, near)?;
-        let body = self.body(number, near)?;
-        Some(body.component.method)
-    }
-
-    /// Whether some component of the key uses the method.
-    fn uses(&self, key: usize, method: Method, near: &mut Near) -> bool
-        ensures { (trees : TreeView) (names : List Text) (live : List Live)
-            → Lists names trees self.now live
-            → IsStrictlySortedBy text_cmp names → key < length names + 1
-            → result ≡ spec.uses (is_method method) (key_at names key) (components_in live) }
-    {
-        for index in 0..self.count_of(key) {
-            if self.method(key, index, near) == Some(method) {
-                return true;
-            }
-        }
-        false
-    }
-
-    /// Whether two components of the key are plain. Where it has fewer than two, no method is looked at.
-    fn is_plain_twice(&self, key: usize, near: &mut Near) -> bool
-        ensures { (trees : TreeView) (names : List Text) (live : List Live)
-            → Lists names trees self.now live
-            → IsStrictlySortedBy text_cmp names → key < length names + 1
-            → (IsTrue result ↔ spec.IsPlainTwice (key_at names key) (components_in live)) }
-    {
-        let count = self.count_of(key);
-        if count < 2 {
-            return false;
-        }
-        let mut is_plain = false;
-        for index in 0..count {
-            if self.method(key, index, near) == Some(Method::Plain) {
-                if is_plain {
-                    return true;
-                }
-                is_plain = true;
-            }
-        }
-        false
-    }
-
-    /// Whether components of the key use both methods. Where it has fewer than two, no method is looked at.
-    fn is_mixed(&self, key: usize, near: &mut Near) -> bool
-        ensures { (trees : TreeView) (names : List Text) (live : List Live)
-            → Lists names trees self.now live
-            → IsStrictlySortedBy text_cmp names → key < length names + 1
-            → (IsTrue result ↔ spec.IsMixed (key_at names key) (components_in live)) }
-    {
-        if self.count_of(key) < 2 {
-            return false;
-        }
-        self.uses(key, Method::Choice, near) && self.uses(key, Method::Interleave, near)
-    }
-
-    /// The least of that many keys with two plain components.
-    pub fn least_plain_twice(&self, keys: usize) -> Option<usize>
-        ensures { (trees : TreeView) (names : List Text) (live : List Live)
-            → Lists names trees self.now live
-            → IsStrictlySortedBy text_cmp names → keys ≡ length names + 1
-            → IsLeastNumber names (λ k. spec.IsPlainTwice k (components_in live)) result }
-    {
-        let mut near = Near::default();
-        for key in 0..keys {
-            if self.is_plain_twice(key, &mut near) {
-                return Some(key);
-            }
-        }
-        None
-    }
-
-    /// The least of that many keys whose components use both methods.
-    pub fn least_mixed(&self, keys: usize) -> Option<usize>
-        ensures { (trees : TreeView) (names : List Text) (live : List Live)
-            → Lists names trees self.now live
-            → IsStrictlySortedBy text_cmp names → keys ≡ length names + 1
-            → IsLeastNumber names (λ k. spec.IsMixed k (components_in live)) result }
-    {
-        let mut near = Near::default();
-        for key in 0..keys {
-            if self.is_mixed(key, &mut near) {
-                return Some(key);
-            }
-        }
-        None
-    }
-}
 
 /// The patterns of bodies that stand in lists of several components, once they were resolved.
 type Shared = Vec<Option<Rc<Pattern>>>;
@@ -161,7 +63,7 @@ impl Combining {
         components: &Components<'_, '_, '_>,
         trees: &mut Trees<'_>,
         key: usize,
-    ) -> Result<Option<Box<Pattern>>, Refusal>
+    ) -> Result<Option<Pattern>, Refusal>
         requires { length self.old.shared.items ≡ length components.now.bodies }
         ensures size { length self.new.shared.items ≡ length self.old.shared.items }
         ensures least { self.new.least ≡ self.old.least }
@@ -198,7 +100,7 @@ impl Combining {
         components: &Components<'_, '_, '_>,
         trees: &mut Trees<'_>,
         key: usize,
-    ) -> Result<Option<Box<Pattern>>, AllocError>
+    ) -> Result<Option<Pattern>, AllocError>
         requires { length self.old.shared.items ≡ length components.now.bodies }
         ensures size { length self.new.shared.items ≡ length self.old.shared.items }
         ensures others { AgreeElsewhere (trees_by trees.new.trees.items)
@@ -292,7 +194,7 @@ fn combine_key(
     shared: &mut Shared,
     key: usize,
     near: &mut Near,
-) -> Result<Option<Box<Pattern>>, Refusal>
+) -> Result<Option<Pattern>, Refusal>
     requires { length shared.old.items ≡ length components.now.bodies }
     ensures size { length shared.new.items ≡ length shared.old.items }
     ensures kept { WithShared keys.now (trees_by trees.now.trees.items) components.now
@@ -320,14 +222,14 @@ fn list_by_method(
     key: usize,
     members: Vec<Rc<Pattern>>,
     near: &mut Near,
-) -> Result<Box<Pattern>, AllocError>
-    ensures { AtKey components.now key (λ k cs. IfOk result (λ p. boxed_view p
+) -> Result<Pattern, AllocError>
+    ensures { AtKey components.now key (λ k cs. IfOk result (λ p. pattern_view p
         ≡ spec.method_node k cs (shared_trees members.items))) }
 {
     if components.uses(key, Method::Interleave, near) {
-        box_pattern(alloc, interleave(members))
+        Ok(interleave(members))
     } else {
-        box_pattern(alloc, choice(members))
+        Ok(choice(members))
     }
 }
 
@@ -339,11 +241,11 @@ fn component_pattern(
     trees: &Trees<'_>,
     key: usize,
     near: &mut Near,
-) -> Result<Option<Box<Pattern>>, Refusal>
+) -> Result<Option<Pattern>, Refusal>
     ensures { WithBody (names_of keys.now) components.now
         (body_of components.now.list (row components.now.places.items key) 0)
         (λ view e. AgreeAt view (trees_by trees.now.trees.items) e.key → MatchResult result
-        (λ p. IsSomeAnd p (λ q. IsWellNamed e.component (boxed_view q)))
+        (λ p. IsSomeAnd p (λ q. IsWellNamed e.component (pattern_view q)))
         (IsMisnamedBy e.component)) }
 {
     let Some(number) = components.body_of(key, 0, near) else {
@@ -446,9 +348,9 @@ fn resolve_body(
     keys: &Keys<'_>,
     trees: &Trees<'_>,
     body: &Body<'_, '_>,
-) -> Result<Box<Pattern>, Refusal>
+) -> Result<Pattern, Refusal>
     ensures { OfBody (names_of keys.now) (trees_by trees.now.trees.items) body.now
-        (λ c. MatchResult result (λ p. IsWellNamed c (boxed_view p)) (IsMisnamedBy c)) }
+        (λ c. MatchResult result (λ p. IsWellNamed c (pattern_view p)) (IsMisnamedBy c)) }
 {
     let pattern = resolve_tree(alloc, trees, body)?;
     if !keeps_name_rules(&pattern) {
@@ -464,13 +366,13 @@ fn resolve_tree(
     alloc: Global,
     trees: &Trees<'_>,
     body: &Body<'_, '_>,
-) -> Result<Box<Pattern>, AllocError>
-    ensures { InContext body.now.context (λ inherited ds. IfOk result (λ p. boxed_view p
+) -> Result<Pattern, AllocError>
+    ensures { InContext body.now.context (λ inherited ds. IfOk result (λ p. pattern_view p
         ≡ resolved_pattern inherited ds (trees_by trees.now.trees.items body.now.component.key
         body.now.component.tree))) }
 {
     match trees.tree(body.component.key, body.component.tree) {
-        Some(tree) => pattern(alloc, body.context, tree),
-        None => box_pattern(alloc, Pattern::Empty),
+        Some(tree) => resolve_pattern(alloc, body.context, tree),
+        None => Ok(Pattern::Empty),
     }
 }

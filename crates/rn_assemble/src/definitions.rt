@@ -84,7 +84,6 @@ fn definitions<'s>(
                 let found = components.firsts(alloc, key, met)?;
                 keep_row(alloc, &mut firsts, definitions.len(), found)?;
                 let name = keys.name(key);
-                let pattern = Box::into_inner(pattern);
                 definitions.push(CombinedDefinition { name, pattern })?;
             }
         }

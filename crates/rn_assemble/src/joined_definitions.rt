@@ -33,7 +33,7 @@ pub(crate) fn joined_grammar(
     } = combined;
     let defs = definitions_of(alloc, definitions, seed)?;
     Ok(Joined {
-        start: Box::into_inner(start),
+        start,
         defs,
         start_firsts,
         firsts,

@@ -20,6 +20,7 @@ mod joined_definitions;
 mod joined_grammar;
 mod keys;
 mod likely_references;
+mod methods;
 mod named_modules;
 mod nodes;
 mod number_runs;

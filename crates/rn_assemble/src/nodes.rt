@@ -18,18 +18,11 @@ pub(crate) fn copy_text(alloc: Global, text: &str) -> Result<String, AllocError>
     String::from_str(alloc, text)
 }
 
-/// A pattern in its box.
-pub(crate) fn box_pattern(alloc: Global, pattern: Pattern) -> Result<Box<Pattern>, AllocError>
+/// The pattern, to be shared.
+pub(crate) fn share_pattern(alloc: Global, pattern: Pattern) -> Result<Rc<Pattern>, AllocError>
     ensures { IfOk result (λ p. p.value ≡ pattern) }
 {
-    new_box(alloc, pattern)
-}
-
-/// The pattern of the box, to be shared.
-pub(crate) fn share_pattern(alloc: Global, pattern: Box<Pattern>) -> Result<Rc<Pattern>, AllocError>
-    ensures { IfOk result (λ p. p.value ≡ pattern.value) }
-{
-    new_shared(alloc, Box::into_inner(pattern))
+    new_shared(alloc, pattern)
 }
 
 /// A value of a datatype: the URI of its library, its name there, and the value's text.

@@ -19,7 +19,7 @@ ghost use Rattle.rn_assemble.specs.inside.Listed.{Lists, Live, OfTrees, componen
 ghost use Rattle.rn_assemble.specs.inside.Trees.{TreeView, trees_by};
 
 use crate::components::{Components, Near};
-use crate::keys::Keys;
+use crate::keys::{Keys, NextKey};
 use crate::refusal::Refusal;
 use crate::trees::Trees;
 use rn_pattern::{NodeReferences, Reach, ReferenceRows};
@@ -33,10 +33,12 @@ struct Reference<'s> {
     reach: Reach,
 }
 
-/// The references of all components. `Undefined` names the least name that is referred to and has no component.
+/// The references of all components. `Undefined` names the least name that is referred to and has no component. Each
+/// name is looked for first behind the one before, by the likely numbers of the components' keys.
 pub(crate) fn references_of<'s>(
     alloc: Global,
     keys: &Keys<'s>,
+    likely_numbers: &[usize],
     components: &Components<'_, '_, 's>,
     trees: &Trees<'s>,
 ) -> Result<ReferenceRows, Refusal>
@@ -58,10 +60,18 @@ pub(crate) fn references_of<'s>(
     let mut undefined = None;
     let mut rows = ReferenceRows::with_capacity(alloc, keys.len())?;
     let mut near = Near::default();
+    let mut next = NextKey::new(likely_numbers);
     for key in 0..keys.len() {
         bodies_of(components, key, &mut looked, &mut near, &mut bodies)?;
         references_in(components, trees, &bodies, &mut near, &mut references)?;
-        row_of(keys, components, &references, &mut undefined, &mut row)?;
+        row_of(
+            keys,
+            components,
+            &references,
+            &mut next,
+            &mut undefined,
+            &mut row,
+        )?;
         rows.push_row(&row)?;
     }
     match undefined {
@@ -200,6 +210,7 @@ fn row_of<'s>(
     keys: &Keys<'s>,
     components: &Components<'_, '_, 's>,
     references: &[Reference<'s>],
+    next: &mut NextKey<'_>,
     undefined: &mut Option<&'s str>,
     row: &mut NodeReferences,
 ) -> Result<(), AllocError>
@@ -217,7 +228,7 @@ fn row_of<'s>(
 {
     row.clear();
     for reference in references {
-        let key = keys.find(reference.name);
+        let key = keys.find_next(reference.name, next);
         add_key(row, key, reference.reach)?;
         *undefined = least_undefined(components, reference.name, key, *undefined);
     }

@@ -268,9 +268,9 @@ fn repetition(
     }
 }
 
-/// A written pattern with its names resolved (RELAX NG 2001, 4.8 to 4.15), in a box.
+/// A written pattern with its names resolved, in a box.
 #[cycle(pattern)]
-pub(crate) fn pattern(
+fn pattern(
     alloc: Global,
     context: Context<'_, '_>,
     written: &Pat<'_>,
@@ -281,9 +281,9 @@ pub(crate) fn pattern(
     new_box(alloc, resolve_pattern(alloc, context, written)?)
 }
 
-/// A written pattern with its names resolved.
+/// A written pattern with its names resolved (RELAX NG 2001, 4.8 to 4.15).
 #[cycle(pattern)]
-fn resolve_pattern(
+pub(crate) fn resolve_pattern(
     alloc: Global,
     context: Context<'_, '_>,
     written: &Pat<'_>,

@@ -1,6 +1,6 @@
 -- The pattern of a key, put together from the bodies of its components.
 use Rattle.std.proofs.Common.{◌≡◌, ◌≢◌, ℕ, zero, suc, ◌+◌, ◌<◌, ◌≤◌, Bool, true, false, cond, List, [], ◌∷◌, ◌++◌, length, get_or, take, map, Option, Some, None, Result, Ok, Err, MatchResult, refl, sym, ap, ◌∙◌, subst, arith}
-use Rattle.std.specs.Prelude.{Box, IsSomeAnd, option_map}
+use Rattle.std.specs.Prelude.{IsSomeAnd, option_map}
 use Rattle.std.specs.List.{AllByRecursion}
 use Rattle.std.specs.Result.{IsErrAnd}
 use Rattle.std.specs.List.Sorted.{IsStrictlySortedBy}
@@ -12,7 +12,7 @@ use Rattle.rn_pattern.specs.NameRules.{KeepsNameRules, KeepNameRules}
 use Rattle.rn_pattern.specs.Opened.{one_or_node}
 use Rattle.rn_pattern.specs.Tree.{Tree, Trees, no_trees, interleave, choice, trees_of}
 use Rattle.rn_text.specs.Texts.{Text, text_cmp}
-use Rattle.rn_pattern.specs.View.{shared_view, boxed_view}
+use Rattle.rn_pattern.specs.View.{pattern_view, shared_view}
 use Rattle.rn_pattern.specs.declared.tree.Pattern.{Pattern}
 use Rattle.rn_pattern.proofs.Ordered.Ascending.{each_append}
 use Rattle.rn_assemble.specs.declared.bodies.Body.{Body}
@@ -123,9 +123,9 @@ module _ (cs : List Component) (k : Key) where
       let one = one_joined (method_node k cs) parts c l is in
       some_pattern p (omega (arith, l)) (s.0 ∙ sym one.0) (subst (AllByRecursion (λ (d : Component). KeepsNameRules d.body)) (sym one.1) (s.1, tt))
 
-  pub one_found : (p : Option (Box Pattern Global)) (c : Component) → length parts ≡ 1 → ((d : Component) → get_or parts 0 d ≡ c) → IsSomeAnd p (λ q. IsWellNamed c (boxed_view q)) → (option_map boxed_view p ≡ pattern_of cs k) × ¬ BreaksNameRules cs k
+  pub one_found : (p : Option Pattern) (c : Component) → length parts ≡ 1 → ((d : Component) → get_or parts 0 d ≡ c) → IsSomeAnd p (λ q. IsWellNamed c (pattern_view q)) → (option_map pattern_view p ≡ pattern_of cs k) × ¬ BreaksNameRules cs k
   one_found None c l is s = absurd s
-  one_found (Some q) c l is s = one_pattern (boxed_view q) c l is s
+  one_found (Some q) c l is s = one_pattern (pattern_view q) c l is s
 
   more_joined : (node : Trees → Tree) (ps : List Tree) → 1 < length ps → node (trees_of ps) ≡ joined_tree node ps
   more_joined node [] l = absurd (omega (arith, l))
@@ -137,7 +137,7 @@ module _ (cs : List Component) (k : Key) where
       some_pattern p (omega (arith, l)) (e ∙ ap (λ us. method_node k cs (trees_of us)) s.0 ∙ more_joined (method_node k cs) (bodies k cs) (omega (arith, l, length-map parts (λ (d : Component). d.body)))) s.1
 
   -- a key that keeps the restrictions notes nothing
-  pub kept_unnoted : (names : List Text) (n : ℕ) (old new : Option ℕ) (p : Option (Box Pattern Global)) → k ≡ key_at names n → IsKeptPattern cs k p → new ≡ old → IsKeptOrNoted names cs n old new p
+  pub kept_unnoted : (names : List Text) (n : ℕ) (old new : Option ℕ) (p : Option Pattern) → k ≡ key_at names n → IsKeptPattern cs k p → new ≡ old → IsKeptOrNoted names cs n old new p
   kept_unnoted names n old new (Some p) e h same = (subst (λ j. IsKeptPattern cs j (Some p)) e h, same)
   kept_unnoted names n old new None e h same = λ t.
       let wrong : None ≡ Some (joined_pattern cs k) = h.0 ∙ ap (λ b. cond b (Some (joined_pattern cs k)) None) (ap (λ j. has_key j cs) e ∙ t) in cc

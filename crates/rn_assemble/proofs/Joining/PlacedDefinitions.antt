@@ -1,6 +1,6 @@
 -- The definitions of a grammar, made place by place.
 use Rattle.std.proofs.Common.{◌≡◌, ◌⊎◌, inl, inr, ℕ, zero, suc, ◌+◌, ◌-◌, ◌<◌, ◌≤◌, true, false, cond, List, [], ◌∷◌, ◌++◌, length, get_or, map, min, Option, Some, None, refl, sym, ap, ◌∙◌, subst, arith, Contains}
-use Rattle.std.specs.Prelude.{Box, IfSome, IsSomeAnd, Vec, ⊤}
+use Rattle.std.specs.Prelude.{IfSome, IsSomeAnd, Vec, ⊤}
 use Rattle.std.specs.List.{AllByRecursion}
 use Rattle.std.specs.List.Sorted.{IsStrictlySortedBy}
 use Rattle.std.specs.declared.alloc.Global.{Global}
@@ -8,8 +8,7 @@ use Rattle.std.proofs.lemmas.Bool.{cases_Bool, cases_eq, cases_lt, false≢true}
 use Rattle.std.proofs.lemmas.List.{length-map, length_push, map-append}
 use Rattle.rn_pattern.specs.Tree.{Tree}
 use Rattle.rn_text.specs.Texts.{Text, text_cmp}
-use Rattle.rn_pattern.specs.View.{boxed_view, pattern_view}
-use Rattle.rn_pattern.specs.declared.tree.Pattern.{Pattern}
+use Rattle.rn_pattern.specs.View.{pattern_view}
 use Rattle.rn_assemble.specs.declared.bodies.Body.{Body}
 use Rattle.rn_assemble.specs.declared.combined_grammar.CombinedDefinition.{CombinedDefinition}
 use Rattle.rn_assemble.specs.declared.refusal.Refusal.{Refusal}
@@ -169,17 +168,16 @@ module _ (names : List Text) (live : List Live) (rises : PlacesRise 0 live) wher
         ]
 
     -- it has a pattern, and its definition is added
-    pub defining_more : (then : TreeView) (rows' : List (List ℕ)) (v : List ℕ) (n : ℕ) (q : Box Pattern Global) (d : CombinedDefinition) → IsFirstAt names live p (Some n)
-        → IsKeptPattern cs (key_at names n) (Some q) → d.pattern ≡ q.value → AgreeElsewhere then now n → d.name.now ≡ get_or names (n - 1) [] → HasRow rows rows' (length entries) v
+    pub defining_more : (then : TreeView) (rows' : List (List ℕ)) (v : List ℕ) (n : ℕ) (d : CombinedDefinition) → IsFirstAt names live p (Some n)
+        → IsKeptPattern cs (key_at names n) (Some d.pattern) → AgreeElsewhere then now n → d.name.now ≡ get_or names (n - 1) [] → HasRow rows rows' (length entries) v
         → AreTied v (joined_members (joined_pattern cs (key_at names n))) → Defining first then least (entries ++ d ∷ []) rows' (p + 1)
-    defining_more then rows' v n q d f kept held agree name has tied =
+    defining_more then rows' v n d f kept agree name has tied =
         let x = get_or names (n - 1) [] in
         let key = number_name names n f.0 in
         let more = one_more p f.2.0 f.2.1 f.2.2 in
         let absent : has_key (name_key x) (done p) ≡ false = ap (λ k. has_key k (done p)) (sym key) ∙ f.3 in
-        let tree : Some (boxed_view q) ≡ Some (joined_pattern cs (key_at names n)) = kept.0 ∙ ap (λ b. cond b (Some (joined_pattern cs (key_at names n))) None) (key_there (key_at names n) live f.2.0 f.2.1 f.2.3) in
-        let boxed : boxed_view q ≡ joined_pattern cs (key_at names n) = cc in
-        let here : pattern_view d.pattern ≡ joined_pattern cs (key_at names n) = ap pattern_view held ∙ boxed in
+        let tree : Some (pattern_view d.pattern) ≡ Some (joined_pattern cs (key_at names n)) = kept.0 ∙ ap (λ b. cond b (Some (joined_pattern cs (key_at names n))) None) (key_there (key_at names n) live f.2.0 f.2.1 f.2.3) in
+        let here : pattern_view d.pattern ≡ joined_pattern cs (key_at names n) = cc in
         let body : pattern_view d.pattern ≡ joined_pattern cs (name_key x) = here ∙ ap (joined_pattern cs) key in
         let view : CombinedDefinition → Text × Tree = λ (e : CombinedDefinition). (e.name.now, pattern_view e.pattern) in
         let added : combined_definitions (entries ++ d ∷ []) ≡ combined_definitions entries ++ view d ∷ [] = map-append view entries (d ∷ []) in

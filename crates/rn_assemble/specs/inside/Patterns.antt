@@ -1,5 +1,5 @@
 -- The patterns of keys and of bodies in the code, and the names in the order of their first components.
-use Rattle.std.specs.Prelude.{ℕ, suc, ◌≡◌, ◌+◌, ◌<◌, ◌⊎◌, min, nat_lt, true, false, if◌then◌else◌, List, length, map, filter, slice_get, slice_index_or, option_map, Option, Some, None, IfSome, Contains, Box, ⊤}
+use Rattle.std.specs.Prelude.{ℕ, suc, ◌≡◌, ◌+◌, ◌<◌, ◌⊎◌, min, nat_lt, true, false, if◌then◌else◌, List, length, map, filter, slice_get, slice_index_or, option_map, Option, Some, None, IfSome, Contains, ⊤}
 use Rattle.std.specs.Option.{option_map_or}
 use Rattle.std.specs.List.{AllByRecursion}
 use Rattle.std.specs.declared.alloc.Global.{Global}
@@ -7,7 +7,7 @@ use Rattle.std.specs.declared.rc.Rc.{Rc}
 use Rattle.rn_pattern.specs.NameRules.{KeepsNameRules}
 use Rattle.rn_pattern.specs.Tree.{Tree}
 use Rattle.rn_text.specs.Texts.{Text}
-use Rattle.rn_pattern.specs.View.{boxed_view, shared_view}
+use Rattle.rn_pattern.specs.View.{pattern_view, shared_view}
 use Rattle.rn_pattern.specs.declared.tree.Pattern.{Pattern}
 use Rattle.rn_assemble.specs.declared.bodies.Body.{Body}
 use Rattle.rn_assemble.specs.declared.combining.Combining.{Combining}
@@ -64,8 +64,8 @@ abbrev pub pattern_of : List Component → Key → Option Tree
 pattern_of cs k = if has_key k cs then Some (joined_pattern cs k) else None
 
 -- the pattern of a key that keeps the restrictions on name classes, where it has components
-abbrev pub IsKeptPattern : List Component → Key → Option (Box Pattern Global) → Type 0
-IsKeptPattern cs k p = (option_map boxed_view p ≡ pattern_of cs k) × ¬ BreaksNameRules cs k
+abbrev pub IsKeptPattern : List Component → Key → Option Pattern → Type 0
+IsKeptPattern cs k p = (option_map pattern_view p ≡ pattern_of cs k) × ¬ BreaksNameRules cs k
 
 -- P holds of the keys' names and the live components, for all trees that are these ones at the key, where the patterns of bodies are right
 abbrev pub WithShared : Keys → TreeView → Components → List (Option (Rc Pattern Global)) → ℕ → (TreeView → List Text → List Component → Type 0) → Type 0
@@ -77,7 +77,7 @@ abbrev pub lesser : ℕ → Option ℕ → Option ℕ
 lesser key least = Some (option_map_or (min key) least key)
 
 -- the pattern of a key; one that breaks the restrictions on name classes has none, and is noted where it is the least
-abbrev pub IsKeptOrNoted : List Text → List Component → ℕ → (old new : Option ℕ) → Option (Box Pattern Global) → Type 0
+abbrev pub IsKeptOrNoted : List Text → List Component → ℕ → (old new : Option ℕ) → Option Pattern → Type 0
 IsKeptOrNoted names cs key old new (Some p) = IsKeptPattern cs (key_at names key) (Some p) × (new ≡ old)
 IsKeptOrNoted names cs key old new None = has_key (key_at names key) cs ≡ true → BreaksNameRules cs (key_at names key) × (new ≡ lesser key old)
 

@@ -9,6 +9,7 @@ use Rattle.rn_text.specs.Texts.{Text, text_cmp}
 use Rattle.rn_syntax.specs.View.{declaration_view, items_view, module_view, prefix_view}
 use Rattle.rn_syntax.specs.declared.tree.Item.{Item}
 use Rattle.rn_assemble.specs.declared.named_modules.NamedModule as code_module
+use Rattle.rn_assemble.specs.declared.keys.DefinedName.{DefinedName}
 use Rattle.rn_assemble.specs.declared.keys.Keys.{Keys}
 use Rattle.rn_assemble.specs.declared.contents.WrittenComponent as code_component
 use Rattle.rn_assemble.specs.declared.contents.Contents.{Contents}
@@ -22,6 +23,10 @@ use Rattle.rn_assemble.specs.inside.Trees.{TreeView, trees_by}
 
 abbrev pub texts_of : List (Bor (List ℕ)) → List Text
 texts_of xs = map (λ (s : Bor (List ℕ)). s.now) xs
+
+-- the names of the entries, in their order
+abbrev pub defined_names : List DefinedName → List Text
+defined_names xs = map (λ (d : DefinedName). d.name.now) xs
 
 -- the names of the keys, in the order of their numbers
 abbrev pub names_of : Keys → List Text

@@ -2,7 +2,7 @@ use Rattle.std.proofs.Common.{sym, ◌∙◌}
 use Rattle.std.specs.Prelude.{IsSomeAnd}
 use Rattle.rn_pattern.specs.NameRules.{KeepsNameRules}
 use Rattle.rn_assemble.specs.inside.Patterns.{IsMisnamedAs, IsWellNamed}
-use Rattle.rn_pattern.specs.View.{boxed_view}
+use Rattle.rn_pattern.specs.View.{pattern_view}
 use Rattle.rn_assemble.specs.inside.Views.{names_of}
 use Rattle.rn_assemble.proofs.Joining.KeyPatterns.{refused_by}
 use Rattle.rn_assemble.proofs.Joining.SharedPatterns.{body_agrees}
@@ -13,7 +13,7 @@ pub returns-in_err-resolve_body : goal.returns-in_err-resolve_body
 returns-in_err-resolve_body c = λ view live e h k p agree.
     let x = c.args.components.now in
     let is = live_body (names_of c.args.keys.now) x.bodies x.list x.places.items live e c.in-Some.number c.in-Some-body.body h k (p ∙ sym c.in-Some.ensures) (sym c.in-Some-body.ensures) in
-    refused_by (λ o. IsSomeAnd o (λ q. IsWellNamed e.component (boxed_view q))) (IsMisnamedAs e.component.key (¬ KeepsNameRules e.component.body)) c.from_residual.result c.in_err-resolve_body.field-0.0 c.from_residual.ensures.1 (c.in_err-resolve_body.ensures e.key e.component (body_agrees (names_of c.args.keys.now) c.in-Some-body.body e.key e.component is agree))
+    refused_by (λ o. IsSomeAnd o (λ q. IsWellNamed e.component (pattern_view q))) (IsMisnamedAs e.component.key (¬ KeepsNameRules e.component.body)) c.from_residual.result c.in_err-resolve_body.field-0.0 c.from_residual.ensures.1 (c.in_err-resolve_body.ensures e.key e.component (body_agrees (names_of c.args.keys.now) c.in-Some-body.body e.key e.component is agree))
 
 pub returns : goal.returns
 returns c = λ view live e h k p agree.

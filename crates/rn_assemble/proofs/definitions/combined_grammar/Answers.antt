@@ -1,7 +1,7 @@
 use Rattle.std.proofs.Common.{◌≡◌, Some, refl, sym, ap, ◌∙◌, subst, arith}
 use Rattle.std.specs.Prelude.{option_map}
 use Rattle.rn_pattern.specs.Matching.{Grammar}
-use Rattle.rn_pattern.specs.View.{boxed_view}
+use Rattle.rn_pattern.specs.View.{pattern_view}
 use Rattle.rn_assemble.specs.Combine.{joined_grammar, joined_pattern}
 use Rattle.rn_assemble.specs.Components.{start_key}
 use Rattle.rn_assemble.specs.Firsts.{joined_members}
@@ -58,10 +58,10 @@ invariant_of-result c =
     let kept = c.in_ok-combine.ensures.exact trees (λ number. refl) live h o (omega arith) shared in
     let made = c.in_ok-definitions.ensures trees (others_agree trees (trees_by c.combine.new.trees.trees.items) c.combine.ensures.others) live h o kept.1
     (c.combine.ensures.least ∙ c.in_ok-combining.ensures.least) (c.combine.ensures.kept trees (λ number. refl) live h o (omega arith) shared) in
-    let held : Some (boxed_view c.unwrap-start.result) ≡ Some (joined_pattern cs start_key) = ap (option_map boxed_view) (sym c.unwrap-start.ensures) ∙ start_tree cs c.in_ok-combine.field-0 kept t in
-    let start : boxed_view c.unwrap-start.result ≡ joined_pattern cs start_key = cc in
+    let held : Some (pattern_view c.unwrap-start.result) ≡ Some (joined_pattern cs start_key) = ap (option_map pattern_view) (sym c.unwrap-start.ensures) ∙ start_tree cs c.in_ok-combine.field-0 kept t in
+    let start : pattern_view c.unwrap-start.result ≡ joined_pattern cs start_key = cc in
     let firsts = c.in_ok-start_firsts.start_firsts.items in
-    let same : ◌≡◌ {A = Grammar} (record { start = boxed_view c.unwrap-start.result; definitions = combined_definitions c.in_ok-definitions.definitions.items }) (joined_grammar cs) =
+    let same : ◌≡◌ {A = Grammar} (record { start = pattern_view c.unwrap-start.result; definitions = combined_definitions c.in_ok-definitions.definitions.items }) (joined_grammar cs) =
     λ i. record { start = start i; definitions = made.are i } in
     record {
       start_tied = subst (λ p. AreTied firsts (joined_members p)) (sym start) (c.in_ok-start_firsts.ensures trees (names_of c.args.keys.now) live h o (omega arith));
@@ -77,6 +77,6 @@ returns c = λ live h o t.
     let kept = c.in_ok-combine.ensures.exact trees (λ number. refl) live h o (omega arith) shared in
     let made = c.in_ok-definitions.ensures trees (others_agree trees (trees_by c.combine.new.trees.trees.items) c.combine.ensures.others) live h o kept.1
     (c.combine.ensures.least ∙ c.in_ok-combining.ensures.least) (c.combine.ensures.kept trees (λ number. refl) live h o (omega arith) shared) in
-    let held : Some (boxed_view c.unwrap-start.result) ≡ Some (joined_pattern cs start_key) = ap (option_map boxed_view) (sym c.unwrap-start.ensures) ∙ start_tree cs c.in_ok-combine.field-0 kept t in
-    let start : boxed_view c.unwrap-start.result ≡ joined_pattern cs start_key = cc in
+    let held : Some (pattern_view c.unwrap-start.result) ≡ Some (joined_pattern cs start_key) = ap (option_map pattern_view) (sym c.unwrap-start.ensures) ∙ start_tree cs c.in_ok-combine.field-0 kept t in
+    let start : pattern_view c.unwrap-start.result ≡ joined_pattern cs start_key = cc in
     record { is = λ i. record { start = start i; definitions = made.are i }; keeps = made.keep }

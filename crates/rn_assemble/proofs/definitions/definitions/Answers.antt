@@ -68,13 +68,13 @@ loop-place-preserved c = record {
             let made = subst (IsKeptOrNoted names cs key least w.combine_or_note.new.self.least) w.in-Some-2.is (w.in_ok-pattern.ensures.exact view left live h o within shared) in
             let name : w.name-name.result.now ≡ get_or names (key - 1) [] = w.name-name.ensures f.0 within in
             let tied = w.in_ok-found.ensures view names live h o within in
-            let d : CombinedDefinition = record { name = w.name-name.result; pattern = w.into_inner-pattern.result } in
+            let d : CombinedDefinition = record { name = w.name-name.result; pattern = w.in-Some-2.pattern } in
             let pair : CombinedDefinition → Text × Tree = λ (e : CombinedDefinition). (e.name.now, pattern_view e.pattern) in
             let size : length c.loop-place.firsts.items ≤ length entries = omega (arith, before.size, length-map entries pair, length-map c.loop-place.firsts.items (λ (v : Vec ℕ Global). v.items)) in
             let has : HasRow rows (firsts_of w.keep_row.new.rows.items) (length entries) w.in_ok-found.found.items =
             subst (λ k. HasRow rows (firsts_of w.keep_row.new.rows.items) k w.in_ok-found.found.items) (w.len-in-Some-2.ensures ∙ c.loop-place.definitions.ok.0) (w.in_ok-keep_row.ensures (omega (arith, size, w.len-in-Some-2.ensures, c.loop-place.definitions.ok.0))) in
             let then = trees_by w.combine_or_note.new.trees.trees.items in
-            let more = defining_more names live h.rises view now least entries rows place before then (firsts_of w.keep_row.new.rows.items) w.in_ok-found.found.items key w.in-Some-2.pattern d f made.0 w.into_inner-pattern.ensures w.combine_or_note.ensures.others name has tied in
+            let more = defining_more names live h.rises view now least entries rows place before then (firsts_of w.keep_row.new.rows.items) w.in_ok-found.found.items key d f made.0 w.combine_or_note.ensures.others name has tied in
             let pushed = subst (λ es. Defining names live h.rises view then least es (firsts_of w.keep_row.new.rows.items) (place + 1)) (sym w.in_ok-push.ensures.items) more in
             let noted = subst (λ l. Defining names live h.rises view then l w.push.new.self.items (firsts_of w.keep_row.new.rows.items) (place + 1)) (sym made.1) pushed in
             joined names x.bodies live h.rises view (place + 1) _ _ _ _ _ _ _ _ w.trees-is w.combining-is w.definitions-is w.firsts-is (w.combine_or_note.ensures.kept view left live h o within shared, noted)
