@@ -77,7 +77,7 @@ pub(crate) fn form_definitions(
 fn put_form(definitions: &mut Definitions, number: usize, made: Option<Pattern>)
     requires { number < length definitions.old.entries }
     ensures { (d : Text × Tree) → definitions_view definitions.new.entries
-        ≡ set_value_at (definitions_view definitions.old.entries) number (form_or made.entry
+        ≡ set_value_at (definitions_view definitions.old.entries) number (form_or made
         (slice_index_or (definitions_view definitions.old.entries) number d).1) }
 {
     if let Some(form) = made {
