@@ -212,24 +212,23 @@ fn combine_key(
         return component_pattern(alloc, keys, components, trees, key, near);
     }
     let members = member_patterns(alloc, keys, components, trees, shared, key, near)?;
-    Ok(Some(list_by_method(alloc, components, key, members, near)?))
+    Ok(Some(list_by_method(components, key, members, near)))
 }
 
 /// The list of the members, by the key's method.
 fn list_by_method(
-    alloc: Global,
     components: &Components<'_, '_, '_>,
     key: usize,
     members: Vec<Rc<Pattern>>,
     near: &mut Near,
-) -> Result<Pattern, AllocError>
-    ensures { AtKey components.now key (λ k cs. IfOk result (λ p. pattern_view p
-        ≡ spec.method_node k cs (shared_trees members.items))) }
+) -> Pattern
+    ensures { AtKey components.now key (λ k cs. pattern_view result
+        ≡ spec.method_node k cs (shared_trees members.items)) }
 {
     if components.uses(key, Method::Interleave, near) {
-        Ok(interleave(members))
+        interleave(members)
     } else {
-        Ok(choice(members))
+        choice(members)
     }
 }
 

@@ -166,8 +166,7 @@ fn gather_item<'t, 's>(
 {
     match item {
         Item::Define { name, method, body } => {
-            let likely = likely_numbers.get(trees.len()).copied().unwrap_or(START);
-            let key = keys.number(likely, name);
+            let key = keys.number(likely_key(contents, likely_numbers, trees.len()), name);
             push_component(contents, trees, keys, key, method, body)
         }
         Item::Start { method, body } => {
@@ -185,6 +184,16 @@ fn gather_item<'t, 's>(
             let module = module_named(modules, &wanted);
             push_include(contents, module, inherit, from)
         }
+    }
+}
+
+/// The number of the key that is tried first for the component at a place among all: the likely one, or where there is
+/// none, that of the component before, since names are mostly combined one behind the other.
+fn likely_key(contents: &Contents<'_, '_>, likely_numbers: &[usize], place: usize) -> usize {
+    match (likely_numbers.get(place), contents.components.last()) {
+        (Some(likely), _) if *likely != START => *likely,
+        (_, Some(before)) => before.key,
+        (_, None) => START,
     }
 }
 

@@ -42,4 +42,4 @@ returns-clause-exact c = λ view a live h o k s.
     let cs = components_in live in
     let size = row_size names x.bodies x.list x.places.items live h o c.args.key (omega (arith, k)) in
     let several = c.in_ok-members.ensures.exact view a live h o k s in
-    more_pattern cs key _ _ (omega (arith, c.if-count-eq0.false, c.if-count-eq1.false, c.count_of-count.ensures, size)) several (c.in_ok-list_by_method.ensures view names live h o k)
+    more_pattern cs key _ _ (omega (arith, c.if-count-eq0.false, c.if-count-eq1.false, c.count_of-count.ensures, size)) several (c.list_by_method.ensures view names live h o k)
