@@ -37,7 +37,6 @@ use crate::short_uris::ShortUris;
 use crate::shortening::{short_uris_of, shorten_modules};
 use crate::trees::Trees;
 use rn_modset::ModuleSet;
-use rn_pattern::Seed;
 use std::alloc::Global;
 
 /// The grammar of a set with short texts in the place of long URIs, and the URIs that they stand for.
@@ -63,19 +62,19 @@ pub fn assemble(alloc: Global, set: &ModuleSet) -> Result<Grammar, Refusal>
     ensures { MatchResult result (λ g. IsAssembled set.now (grammar_view g))
         (IsFirstRefusal set.now) }
 {
+    let combined = combine_set(alloc, set)?;
     let seed = seed_of(set);
-    let combined = combine_set(alloc, set, &seed)?;
     let joined = joined_grammar(alloc, combined, &seed)?;
     Ok(Grammar { joined })
 }
 
 /// The combined patterns of the set, or the first refusal that stands for it. The trees of the modules are given up.
-fn combine_set<'s>(alloc: Global, set: &'s ModuleSet, seed: &Seed) -> Result<Combined<'s>, Refusal>
+fn combine_set<'s>(alloc: Global, set: &'s ModuleSet) -> Result<Combined<'s>, Refusal>
     ensures { MatchResult result (λ c. IsAssembled set.now (combined_view c))
         (IsFirstRefusal set.now) }
 {
     let modules = read_modules(alloc, set)?;
-    combine_modules(alloc, modules, seed)
+    combine_modules(alloc, modules)
 }
 
 /// The grammar of the set (RELAX NG 2001, 4.7, 4.11, 4.17) with short texts in the place of URIs of more than
@@ -87,8 +86,8 @@ pub fn assemble_short(alloc: Global, set: &ModuleSet) -> Result<ShortGrammar, Re
         (λ g. IsShortened set.now (short_texts g.uris) (grammar_view g.grammar))
         (IsFirstRefusal set.now) }
 {
+    let ShortCombined { combined, uris } = combine_short(alloc, set)?;
     let seed = seed_of(set);
-    let ShortCombined { combined, uris } = combine_short(alloc, set, &seed)?;
     let joined = joined_grammar(alloc, combined, &seed)?;
     let grammar = Grammar { joined };
     Ok(ShortGrammar { grammar, uris })
@@ -96,11 +95,7 @@ pub fn assemble_short(alloc: Global, set: &ModuleSet) -> Result<ShortGrammar, Re
 
 /// The combined patterns of the set with short texts in the place of long URIs, and the URIs that these stand for; or
 /// the first refusal that stands for the set. The trees of the modules are given up.
-fn combine_short<'s>(
-    alloc: Global,
-    set: &'s ModuleSet,
-    seed: &Seed,
-) -> Result<ShortCombined<'s>, Refusal>
+fn combine_short<'s>(alloc: Global, set: &'s ModuleSet) -> Result<ShortCombined<'s>, Refusal>
     ensures { MatchResult result
         (λ c. IsShortened set.now (short_texts c.uris) (combined_view c.combined))
         (IsFirstRefusal set.now) }
@@ -108,7 +103,7 @@ fn combine_short<'s>(
     let modules = read_modules(alloc, set)?;
     let uris = short_uris_of(alloc, modules.as_slice())?;
     let modules = shorten_modules(alloc, &uris, modules)?;
-    let combined = combine_modules(alloc, modules, seed)?;
+    let combined = combine_modules(alloc, modules)?;
     Ok(ShortCombined { combined, uris })
 }
 
@@ -117,7 +112,6 @@ fn combine_short<'s>(
 fn combine_modules<'s>(
     alloc: Global,
     modules: Vec<NamedModule<'s>>,
-    seed: &Seed,
 ) -> Result<Combined<'s>, Refusal>
     requires in_order { AreInOrder modules.items }
     requires flat { AllByRecursion (λ (m : specs.NamedModule). AreFlat m.tree.items)
@@ -127,18 +121,10 @@ fn combine_modules<'s>(
         (IsFirstOfModules (modules_view modules.entry.items)) }
 {
     let roots = included_roots(alloc, modules.as_slice())?;
-    let keys = Keys::new(alloc, modules.as_slice(), seed)?;
+    let keys = Keys::new(alloc, modules.as_slice())?;
     let constants = Constants::new(alloc)?;
     let (modules, items) = split_items(alloc, modules)?;
-    let likely_numbers = keys.likely_numbers(alloc)?;
-    let (contents, mut trees) = contents_of(
-        alloc,
-        modules.as_slice(),
-        items,
-        &keys,
-        &likely_numbers,
-        &constants,
-    )?;
+    let (contents, mut trees) = contents_of(alloc, modules.as_slice(), items, &keys, &constants)?;
     let components = components_of(
         alloc,
         contents.as_slice(),
@@ -146,14 +132,7 @@ fn combine_modules<'s>(
         roots.as_slice(),
         keys.len(),
     )?;
-    combine_keys(
-        alloc,
-        modules.as_slice(),
-        &keys,
-        &likely_numbers,
-        &components,
-        &mut trees,
-    )
+    combine_keys(alloc, modules.as_slice(), &keys, &components, &mut trees)
 }
 
 /// The combined patterns of the modules' components, or the first refusal that stands for them. The modules may be
@@ -162,7 +141,6 @@ fn combine_keys<'s>(
     alloc: Global,
     modules: &[NamedModule<'_>],
     keys: &Keys<'s>,
-    likely_numbers: &[usize],
     components: &Components<'_, '_, 's>,
     trees: &mut Trees<'s>,
 ) -> Result<Combined<'s>, Refusal>
@@ -174,7 +152,7 @@ fn combine_keys<'s>(
 {
     check_overrides(alloc, modules, keys, components.lack)?;
     check_methods(alloc, keys, components)?;
-    let references = check_references(alloc, keys, likely_numbers, components, trees)?;
+    let references = check_references(alloc, keys, components, trees)?;
     let order = settling_order(alloc, keys, components, references)?;
     combined_grammar(alloc, keys, components, trees, order)
 }
@@ -233,7 +211,6 @@ fn check_methods(
 fn check_references<'s>(
     alloc: Global,
     keys: &Keys<'s>,
-    likely_numbers: &[usize],
     components: &Components<'_, '_, 's>,
     trees: &Trees<'s>,
 ) -> Result<SoundReferences, Refusal>
@@ -241,7 +218,7 @@ fn check_references<'s>(
         (λ names cs. MatchResult result (λ r. HasSoundReferences cs
         × IsReferenceOrder names cs r.order.items) (IsUnsound cs)) }
 {
-    let references = references_of(alloc, keys, likely_numbers, components, trees)?;
+    let references = references_of(alloc, keys, components, trees)?;
     match key_order(alloc, &references)? {
         KeyOrder::Ordered(order) => Ok(SoundReferences {
             everywhere: references.everywhere,

@@ -50,13 +50,12 @@ pub(crate) struct Contents<'t, 's> {
 pub(crate) type AllContents<'t, 's> = (Vec<Contents<'t, 's>>, Trees<'s>);
 
 /// The contents of each module, whose items are given apart, and the trees of all components, numbered on from module to
-/// module. The likely number of a component's key is tried first. The only error is want of memory.
+/// module. The only error is want of memory.
 pub(crate) fn contents_of<'t, 's>(
     alloc: Global,
     modules: &'t [NamedModule<'s>],
     items: Vec<Vec<Item<'s>>>,
     keys: &Keys<'s>,
-    likely_numbers: &[usize],
     constants: &Constants,
 ) -> Result<AllContents<'t, 's>, AllocError>
     requires modules_in_order { AreInOrder modules.now }
@@ -70,14 +69,7 @@ pub(crate) fn contents_of<'t, 's>(
     for items in items {
         let module = &modules[all.len()];
         let contents = contents_of_module(
-            alloc,
-            modules,
-            keys,
-            likely_numbers,
-            constants,
-            module,
-            items,
-            &mut trees,
+            alloc, modules, keys, constants, module, items, &mut trees,
         )?;
         all.push(contents)?;
     }
@@ -89,7 +81,6 @@ fn contents_of_module<'t, 's>(
     alloc: Global,
     modules: &[NamedModule<'s>],
     keys: &Keys<'s>,
-    likely_numbers: &[usize],
     constants: &Constants,
     module: &'t NamedModule<'s>,
     items: Vec<Item<'s>>,
@@ -108,7 +99,7 @@ fn contents_of_module<'t, 's>(
         components: Vec::with_capacity(alloc, items.len())?,
         includes: Vec::new(alloc),
     };
-    gather(&mut contents, trees, modules, keys, likely_numbers, items)?;
+    gather(&mut contents, trees, modules, keys, items)?;
     Ok(contents)
 }
 
@@ -119,7 +110,6 @@ fn gather<'t, 's>(
     trees: &mut Trees<'s>,
     modules: &[NamedModule<'s>],
     keys: &Keys<'s>,
-    likely_numbers: &[usize],
     items: Vec<Item<'s>>,
 ) -> Result<(), AllocError>
     requires keys_in_order { IsStrictlySortedBy text_cmp (names_of keys.now) }
@@ -136,7 +126,7 @@ fn gather<'t, 's>(
         (inclusions ms (length contents.old.components.items) (items_view items.entry.items))) }
 {
     'items: for item in items {
-        gather_item(contents, trees, modules, keys, likely_numbers, item)?;
+        gather_item(contents, trees, modules, keys, item)?;
     }
     Ok(())
 }
@@ -148,7 +138,6 @@ fn gather_item<'t, 's>(
     trees: &mut Trees<'s>,
     modules: &[NamedModule<'s>],
     keys: &Keys<'s>,
-    likely_numbers: &[usize],
     item: Item<'s>,
 ) -> Result<(), AllocError>
     requires keys_in_order { IsStrictlySortedBy text_cmp (names_of keys.now) }
@@ -166,13 +155,13 @@ fn gather_item<'t, 's>(
 {
     match item {
         Item::Define { name, method, body } => {
-            let key = keys.number(likely_key(contents, likely_numbers, trees.len()), name);
+            let key = keys.number(trees.len(), name);
             push_component(contents, trees, keys, key, method, body)
         }
         Item::Start { method, body } => {
             push_component(contents, trees, keys, START, method, body)
         }
-        Item::Div(items) => gather(contents, trees, modules, keys, likely_numbers, items),
+        Item::Div(items) => gather(contents, trees, modules, keys, items),
         Item::Include(include) => {
             let rn_syntax::Include {
                 wanted,
@@ -180,20 +169,10 @@ fn gather_item<'t, 's>(
                 items,
             } = Box::into_inner(include);
             let from = contents.components.len();
-            gather(contents, trees, modules, keys, likely_numbers, items)?;
+            gather(contents, trees, modules, keys, items)?;
             let module = module_named(modules, &wanted);
             push_include(contents, module, inherit, from)
         }
-    }
-}
-
-/// The number of the key that is tried first for the component at a place among all: the likely one, or where there is
-/// none, that of the component before, since names are mostly combined one behind the other.
-fn likely_key(contents: &Contents<'_, '_>, likely_numbers: &[usize], place: usize) -> usize {
-    match (likely_numbers.get(place), contents.components.last()) {
-        (Some(likely), _) if *likely != START => *likely,
-        (_, Some(before)) => before.key,
-        (_, None) => START,
     }
 }
 

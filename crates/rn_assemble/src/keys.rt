@@ -1,29 +1,23 @@
 // The keys of all components, numbered in their order.
-ghost use Rattle.std.specs.Prelude.{◌≡◌, ◌+◌, ◌-◌, ◌<◌, ◌++◌, [], bytes_eq, length, slice_index_or, Contains, IfOk, IfSome, OnOk};
-ghost use Rattle.std.specs.List.{IsDistinct};
-ghost use Rattle.indexmap.specs.IndexMap.{keys};
+ghost use Rattle.std.specs.Prelude.{◌≡◌, ◌+◌, ◌-◌, ◌<◌, ◌++◌, [], length, slice_index_or, Contains, IfOk, IfSome, IsTrue, OnOk};
+ghost use Rattle.std.specs.List.Sorted.{IsStrictlySortedBy, IsStrictlySortedBy-prop};
 ghost use Rattle.rn_text.specs.Texts.{text_cmp};
 ghost use Rattle.rn_pattern.specs.Canonical.{sorted_once};
 ghost use Rattle.rn_syntax.specs.View.{item_view, items_view};
-ghost use Rattle.rn_assemble.specs.inside.Keyed.{item_defines, defines, AreNames, IsFound, IsNameNumber, key_at};
-ghost use Rattle.rn_assemble.specs.inside.Views.{defined_names, modules_view, names_of, texts_of};
+ghost use Rattle.rn_assemble.specs.inside.Keyed.{item_defines, defined_names, defines, AreNames, IsFound, IsNameNumber, key_at};
 ghost use Rattle.rn_assemble.specs.Refused.{key_view};
 
 use crate::named_modules::NamedModule;
 use crate::refusal::Key;
-use indexmap::IndexMap;
-use rn_pattern::Seed;
 use rn_syntax::Item;
 use std::alloc::{AllocError, Global};
+use std::cmp::Ordering;
 
 /// The number of start, which stands before all names.
 pub(crate) const START: usize = 0;
 
-/// The names that modules define, and for each the place of an item that defines it among the components of all
-/// modules. No answer rests on the places.
-type Names<'s> = IndexMap<&'s str, usize, Seed>;
-
-/// A name that a module defines, and the place of the item that defines it among the components of all modules.
+/// A name that modules define, and the place of the first item that defines it among the components of all modules. No
+/// answer rests on the place.
 #[derive(Clone, Copy)]
 struct DefinedName<'s> {
     name: &'s str,
@@ -33,41 +27,29 @@ struct DefinedName<'s> {
 /// The keys of the components of all modules. Start is number 0, and the names follow in the order of their bytes.
 #[derive(Drop)]
 pub(crate) struct Keys<'s> {
-    names: Names<'s>,
-    /// How many components the modules have.
-    components: usize,
+    /// The names, in the order of their bytes, each once.
+    names: Vec<DefinedName<'s>>,
+    /// For each component by its place among those of all modules, the number of its key. No answer rests on them, so no
+    /// clause speaks of them: a wrong one costs time.
+    numbers: Vec<usize>,
+    ghost in_order: { IsStrictlySortedBy text_cmp (defined_names names.items) } by { IsStrictlySortedBy-prop _ _ },
 }
 
 impl<'s> Keys<'s> {
-    /// The keys of these modules, in a set that hashes by the seed.
-    pub fn new(
-        alloc: Global,
-        modules: &[NamedModule<'s>],
-        seed: &Seed,
-    ) -> Result<Keys<'s>, AllocError>
+    ghost use Rattle.rn_assemble.specs.inside.Views.{modules_view, names_of};
+
+    /// The keys of these modules.
+    pub fn new(alloc: Global, modules: &[NamedModule<'s>]) -> Result<Keys<'s>, AllocError>
         ensures { IfOk result (λ keys. AreNames (modules_view modules.now) (names_of keys)) }
     {
-        let mut defined = Vec::with_capacity(alloc, count_items(modules))?;
+        let mut names = Vec::with_capacity(alloc, count_items(modules))?;
         let mut components = 0;
         for module in modules {
-            push_names(&module.tree.items, &mut defined, &mut components)?;
+            push_names(&module.tree.items, &mut names, &mut components)?;
         }
-        sort_without_repeats(&mut defined)?;
-        let names = map_of(alloc, defined.as_slice(), seed)?;
-        Ok(Keys { names, components })
-    }
-
-    /// For each component by its place among those of all modules, the number of its key if no earlier one has the same
-    /// name; else that of start. They are only where to look first, so no clause speaks of them: a wrong one costs
-    /// time, and no answer rests on it.
-    pub fn likely_numbers(&self, alloc: Global) -> Result<Vec<usize>, AllocError> {
-        let mut numbers = vec![in alloc; START; self.components]?;
-        for (at, (_, place)) in self.names.iter().enumerate() {
-            if *place < numbers.len() {
-                numbers[*place] = at + 1;
-            }
-        }
-        Ok(numbers)
+        let numbers = number_names(alloc, &mut names, components)?;
+        names.shrink_to_fit();
+        Ok(Keys { names, numbers })
     }
 
     /// How many keys there are.
@@ -77,32 +59,55 @@ impl<'s> Keys<'s> {
         self.names.len() + 1
     }
 
-    /// The number of a name that a module defines; of any other name, that of start. The likely number is tried first.
-    pub fn number(&self, likely: usize, name: &str) -> usize
+    /// The number of a name that a module defines; of any other name, that of start. The key of the component at the
+    /// place is tried first.
+    pub fn number(&self, place: usize, name: &str) -> usize
         ensures { Contains (names_of self.now) name.now
             → IsNameNumber (names_of self.now) name.now result }
     {
-        if START < likely && likely < self.len() && self.name(likely) == name {
+        let likely = self.number_at(place);
+        if self.is_named(likely, name) {
             return likely;
         }
         self.find(name).unwrap_or(START)
     }
 
-    /// The number of a name, if a module defines it. The next key is tried first.
-    pub fn find_next(&self, name: &str, next: &mut NextKey<'_>) -> Option<usize>
+    /// The number of a name, if a module defines it. The next key is tried first, then the one that goes on in the same
+    /// step.
+    pub fn find_next(&self, name: &str, next: &mut NextKey) -> Option<usize>
         ensures within { IfSome result (λ key. (0 < key)
             × (key < length (names_of self.now) + 1)) }
         ensures found { IsFound (names_of self.now) name.now result }
     {
-        let likely = next.number();
-        if next.was_right && START < likely && likely < self.len() && self.name(likely) == name {
-            next.place = next.place.saturating_add(1);
-            return Some(likely);
-        }
-        let key = self.find(name)?;
-        next.was_right = key == likely;
-        next.place = self.place(key).saturating_add(1);
+        let behind = self.number_at(next.place);
+        let key = match self.guess(name, behind, next) {
+            Some(guessed) => guessed,
+            None => self.find(name)?,
+        };
+        next.note(key, key == behind, self.place(key).saturating_add(1));
         Some(key)
+    }
+
+    /// The key that is behind the one found last, if that was right before, or else the one that goes on in the same
+    /// step; none where neither has the name.
+    fn guess(&self, name: &str, behind: usize, next: &NextKey) -> Option<usize>
+        ensures { IfSome result (IsNameNumber (names_of self.now) name.now) }
+    {
+        if next.was_right && self.is_named(behind, name) {
+            return Some(behind);
+        }
+        let in_step = next.in_step();
+        if self.is_named(in_step, name) {
+            return Some(in_step);
+        }
+        None
+    }
+
+    /// Whether the number is that of the name.
+    fn is_named(&self, number: usize, name: &str) -> bool
+        ensures { IsTrue result → IsNameNumber (names_of self.now) name.now number }
+    {
+        START < number && number < self.len() && self.name(number) == name
     }
 
     /// The number of a name, if a module defines it.
@@ -111,20 +116,27 @@ impl<'s> Keys<'s> {
             × (key < length (names_of self.now) + 1)) }
         ensures found { IsFound (names_of self.now) name.now result }
     {
-        match self.names.get_index_of(name) {
-            Some(at) if at < self.names.len() => Some(at + 1),
-            _ => None,
+        let compare = |one: &DefinedName<'_>| -> Ordering
+            ensures { result ≡ text_cmp one.now.name.now name.entry.now }
+        { one.name.cmp(name) };
+        match self.names.binary_search_by(compare) {
+            Ok(at) => Some(at + 1),
+            Err(_) => None,
         }
     }
 
-    /// The place of an item that defines the name of that number; behind all components where no name has the number.
+    /// The number of the key of the component at a place; that of start where there is none.
+    fn number_at(&self, place: usize) -> usize {
+        self.numbers.get(place).copied().unwrap_or(START)
+    }
+
+    /// The place of the first item that defines the name of that number; behind all components where no name has the
+    /// number.
     fn place(&self, number: usize) -> usize {
-        let named = number
-            .checked_sub(1)
-            .and_then(|at| self.names.get_index(at));
+        let named = number.checked_sub(1).and_then(|at| self.names.get(at));
         match named {
-            Some((_, place)) => *place,
-            None => self.components,
+            Some(named) => named.place,
+            None => self.numbers.len(),
         }
     }
 
@@ -134,8 +146,8 @@ impl<'s> Keys<'s> {
             → result.now ≡ slice_index_or (names_of self.now) (number - 1) [] }
     {
         match number.checked_sub(1) {
-            Some(at) => name_at(&self.names, at),
-            None => "",
+            Some(at) if at < self.names.len() => self.names[at].name,
+            _ => "",
         }
     }
 
@@ -151,31 +163,66 @@ impl<'s> Keys<'s> {
     }
 }
 
-/// Which key is looked for first: that of the component behind the one whose name was looked up last, as long as it was
-/// the right one. No answer rests on it.
-#[derive(Drop)]
-pub(crate) struct NextKey<'k> {
-    /// For each component by its place, the number of its key ([`Keys::likely_numbers`]).
-    numbers: &'k [usize],
-    /// The place of the component whose key is looked for first.
-    place: usize,
-    /// Whether the key that was next was the right one when a name was looked up last.
-    was_right: bool,
+/// How many references of a key have a step of their own.
+const STEPS: usize = 4;
+
+/// The key that the reference with an index had last, and how far it was from the one before.
+#[derive(Clone, Copy, Default)]
+struct Step {
+    key: usize,
+    step: usize,
 }
 
-impl<'k> NextKey<'k> {
-    /// The key of the first component, by the likely numbers of all.
-    pub fn new(numbers: &'k [usize]) -> NextKey<'k> {
+/// Which key is looked for first. No answer rests on it.
+#[derive(Drop)]
+pub(crate) struct NextKey {
+    /// The place of the component behind the one whose name was found last.
+    place: usize,
+    /// Whether the key of that component was the right one when a name was looked up last.
+    was_right: bool,
+    /// The index of the next reference of its key.
+    index: usize,
+    /// For each of the first references of a key, by its index, the key found last and how far that was from the one
+    /// before.
+    steps: [Step; STEPS],
+}
+
+impl NextKey {
+    /// The key of the first component.
+    pub fn new() -> NextKey {
         NextKey {
-            numbers,
             place: 0,
             was_right: true,
+            index: 0,
+            steps: [Step::default(); STEPS],
         }
     }
 
-    /// The number of the key; that of start where there is no component.
-    fn number(&self) -> usize {
-        self.numbers.get(self.place).copied().unwrap_or(START)
+    /// The next reference is the first one of its key.
+    pub fn begin(&mut self) {
+        self.index = 0;
+    }
+
+    /// The key that goes on in the same step; start where there is none.
+    fn in_step(&self) -> usize {
+        match self.steps.get(self.index) {
+            Some(last) => last.key.wrapping_add(last.step),
+            None => START,
+        }
+    }
+
+    /// Notes the key of the next reference, whether it was that of the component at the place, and the place behind its
+    /// first component.
+    fn note(&mut self, key: usize, was_right: bool, place: usize) {
+        self.was_right = was_right;
+        self.place = place;
+        if let Some(last) = self.steps.get_mut(self.index) {
+            *last = Step {
+                key,
+                step: key.wrapping_sub(last.key),
+            };
+        }
+        self.index = self.index.saturating_add(1);
     }
 }
 
@@ -186,17 +233,6 @@ fn count_items(modules: &[NamedModule<'_>]) -> usize {
         count = count.saturating_add(module.tree.items.len());
     }
     count
-}
-
-/// The name at a place; an empty text where there is none.
-fn name_at<'s>(names: &Names<'s>, at: usize) -> &'s str
-    ensures { at < length names.now.entries
-        → result.now ≡ slice_index_or (texts_of (keys names.now)) at [] }
-{
-    match names.get_index(at) {
-        Some((name, _)) => *name,
-        None => "",
-    }
 }
 
 /// Adds the names that the items define. The place of the next component counts on with each of theirs.
@@ -243,28 +279,40 @@ fn push_item_names<'s>(
     }
 }
 
-/// Puts the names in order, each once. Of several with one name the first stays.
-fn sort_without_repeats(defined: &mut Vec<DefinedName<'_>>) -> Result<(), AllocError>
+/// Puts the names in order, each once: of several with one name the first stays. Gives for each component, by its place,
+/// the number of its key.
+fn number_names(
+    alloc: Global,
+    defined: &mut Vec<DefinedName<'_>>,
+    components: usize,
+) -> Result<Vec<usize>, AllocError>
     ensures { OnOk result (defined_names defined.new.items
         ≡ sorted_once text_cmp (defined_names defined.old.items)) }
 {
     defined.sort_by(|a: &DefinedName<'_>, b: &DefinedName<'_>| a.name.cmp(b.name))?;
+    let numbers = numbers_by_name(alloc, defined, components)?;
     defined.dedup_by(|later, before| later.name == before.name);
-    Ok(())
+    Ok(numbers)
 }
 
-/// A map of the names, of which no two are the same, to their places.
-fn map_of<'s>(
+/// For each component by its place, the number of its key; that of start where it has no name. The names are given in
+/// their order, each as often as components have it.
+fn numbers_by_name(
     alloc: Global,
-    defined: &[DefinedName<'s>],
-    seed: &Seed,
-) -> Result<Names<'s>, AllocError>
-    requires { IsDistinct bytes_eq (defined_names defined.now) }
-    ensures { IfOk result (λ names. texts_of (keys names) ≡ defined_names defined.now) }
-{
-    let mut names = IndexMap::with_capacity_and_hasher(alloc, defined.len(), *seed)?;
-    for one in defined {
-        names.insert(one.name, one.place)?;
+    sorted: &[DefinedName<'_>],
+    components: usize,
+) -> Result<Vec<usize>, AllocError> {
+    let mut numbers = vec![in alloc; START; components]?;
+    let mut number = START;
+    let mut before = None;
+    for one in sorted {
+        if before != Some(one.name) {
+            number = number.saturating_add(1);
+            before = Some(one.name);
+        }
+        if one.place < numbers.len() {
+            numbers[one.place] = number;
+        }
     }
-    Ok(names)
+    Ok(numbers)
 }

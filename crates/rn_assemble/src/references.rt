@@ -33,12 +33,11 @@ struct Reference<'s> {
     reach: Reach,
 }
 
-/// The references of all components. `Undefined` names the least name that is referred to and has no component. Each
-/// name is looked for first behind the one before, by the likely numbers of the components' keys.
+/// The references of all components. `Undefined` names the least name that is referred to and has no component.
+/// [`NextKey`] tells where a name is looked for first.
 pub(crate) fn references_of<'s>(
     alloc: Global,
     keys: &Keys<'s>,
-    likely_numbers: &[usize],
     components: &Components<'_, '_, 's>,
     trees: &Trees<'s>,
 ) -> Result<ReferenceRows, Refusal>
@@ -60,7 +59,7 @@ pub(crate) fn references_of<'s>(
     let mut undefined = None;
     let mut rows = ReferenceRows::with_capacity(alloc, keys.len())?;
     let mut near = Near::default();
-    let mut next = NextKey::new(likely_numbers);
+    let mut next = NextKey::new();
     for key in 0..keys.len() {
         bodies_of(components, key, &mut looked, &mut near, &mut bodies)?;
         references_in(components, trees, &bodies, &mut near, &mut references)?;
@@ -210,7 +209,7 @@ fn row_of<'s>(
     keys: &Keys<'s>,
     components: &Components<'_, '_, 's>,
     references: &[Reference<'s>],
-    next: &mut NextKey<'_>,
+    next: &mut NextKey,
     undefined: &mut Option<&'s str>,
     row: &mut NodeReferences,
 ) -> Result<(), AllocError>
@@ -227,6 +226,7 @@ fn row_of<'s>(
         undefined.old undefined.new) }
 {
     row.clear();
+    next.begin();
     for reference in references {
         let key = keys.find_next(reference.name, next);
         add_key(row, key, reference.reach)?;

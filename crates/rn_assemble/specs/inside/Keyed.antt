@@ -1,10 +1,11 @@
 -- The names that modules define, and the numbers of keys: the start is 0, and the names follow in their order.
-use Rattle.std.specs.Prelude.{ℕ, zero, suc, ◌<◌, ◌≡◌, ◌↔◌, List, [], ◌∷◌, ◌++◌, length, flat_map, slice_index_or, Contains, Option, Some, None}
+use Rattle.std.specs.Prelude.{ℕ, zero, suc, ◌<◌, ◌≡◌, ◌↔◌, List, [], ◌∷◌, ◌++◌, length, map, flat_map, slice_index_or, Contains, Option, Some, None}
 use Rattle.std.specs.List.{AllByRecursion}
 use Rattle.std.specs.List.Sorted.{IsStrictlySortedBy}
 use Rattle.rn_text.specs.Texts.{Text, text_cmp}
 use Rattle.rn_syntax.specs.Tree as t
 use Rattle.rn_syntax.specs.Tree.{Item, Items}
+use Rattle.rn_assemble.specs.declared.keys.DefinedName.{DefinedName}
 use Rattle.rn_assemble.specs.Components.{Key, start_key, name_key, NamedModule}
 
 -- the names that items define, those of includes' own items among them
@@ -18,6 +19,10 @@ abbrev mutual
   pub defines : Items → List Text
   defines t.no_items = []
   defines (t.item x xs) = item_defines x ++ defines xs
+
+-- the names of the entries, in their order
+abbrev pub defined_names : List DefinedName → List Text
+defined_names xs = map (λ (d : DefinedName). d.name.now) xs
 
 -- all names that the modules define, each once, in their order
 pub record AreNames (modules : List NamedModule) (names : List Text) : Type 0 where

@@ -4,18 +4,16 @@ use Rattle.std.specs.declared.alloc.Global.{Global}
 use Rattle.std.specs.List.{AllByRecursion}
 use Rattle.std.specs.List.Sorted.{IsStrictlySortedBy}
 use Rattle.std.specs.Borrow.{Bor}
-use Rattle.std.specs.Map.{keys_of}
 use Rattle.rn_text.specs.Texts.{Text, text_cmp}
 use Rattle.rn_syntax.specs.View.{declaration_view, items_view, module_view, prefix_view}
 use Rattle.rn_syntax.specs.declared.tree.Item.{Item}
 use Rattle.rn_assemble.specs.declared.named_modules.NamedModule as code_module
-use Rattle.rn_assemble.specs.declared.keys.DefinedName.{DefinedName}
 use Rattle.rn_assemble.specs.declared.keys.Keys.{Keys}
 use Rattle.rn_assemble.specs.declared.contents.WrittenComponent as code_component
 use Rattle.rn_assemble.specs.declared.contents.Contents.{Contents}
 use Rattle.rn_assemble.specs.declared.contents.Include.{Include}
 use Rattle.rn_assemble.specs.Components.{NamedModule}
-use Rattle.rn_assemble.specs.inside.Keyed.{key_at}
+use Rattle.rn_assemble.specs.inside.Keyed.{defined_names, key_at}
 use Rattle.rn_assemble.specs.declared.trees.KeyedTree.{KeyedTree}
 use Rattle.rn_assemble.specs.declared.trees.Trees.{Trees}
 use Rattle.rn_assemble.specs.inside.Contained.{WrittenComponent, Inclusion}
@@ -24,13 +22,9 @@ use Rattle.rn_assemble.specs.inside.Trees.{TreeView, trees_by}
 abbrev pub texts_of : List (Bor (List ℕ)) → List Text
 texts_of xs = map (λ (s : Bor (List ℕ)). s.now) xs
 
--- the names of the entries, in their order
-abbrev pub defined_names : List DefinedName → List Text
-defined_names xs = map (λ (d : DefinedName). d.name.now) xs
-
 -- the names of the keys, in the order of their numbers
 abbrev pub names_of : Keys → List Text
-names_of keys = texts_of (keys_of keys.names.entries)
+names_of keys = defined_names keys.names.items
 
 abbrev pub named_module_view : code_module.NamedModule → NamedModule
 named_module_view m = record { name = m.name.now; tree = module_view m.tree }

@@ -12,8 +12,7 @@ use Rattle.rn_syntax.specs.declared.tree.Item.TheVariants as written
 use Rattle.rn_syntax.specs.declared.token.Method.{Method}
 use Rattle.rn_syntax.specs.declared.tree.Pat.{Pat}
 use Rattle.rn_assemble.specs.declared.keys.DefinedName.{DefinedName}
-use Rattle.rn_assemble.specs.inside.Keyed.{defines, item_defines}
-use Rattle.rn_assemble.specs.inside.Views.{defined_names}
+use Rattle.rn_assemble.specs.inside.Keyed.{defined_names, defines, item_defines}
 use Rattle.rn_assemble.proofs.keys.+names.Goals as goal
 
 -- a define as its tree

@@ -1,8 +1,7 @@
 -- With the names that are left to add, the list gets those of all items.
 use Rattle.std.proofs.Common.{◌≡◌, ◌++◌, drop}
 use Rattle.rn_syntax.specs.View.{items_view}
-use Rattle.rn_assemble.specs.inside.Keyed.{defines}
-use Rattle.rn_assemble.specs.inside.Views.{defined_names}
+use Rattle.rn_assemble.specs.inside.Keyed.{defined_names, defines}
 use Rattle.rn_assemble.proofs.keys.+names.Given as goal
 
 abbrev pub invariant-push_names-items : goal.invariant-push_names-items

@@ -6,7 +6,7 @@ use Rattle.rn_text.specs.Texts.{text_cmp}
 use Rattle.rn_pattern.proofs.Ordered.Orders.{text_same}
 use Rattle.rn_pattern.proofs.Ordered.SortedBy.{ids_deduped, ids_sorted, ids_sorted_once}
 use Rattle.rn_assemble.specs.declared.keys.DefinedName.{DefinedName}
-use Rattle.rn_assemble.proofs.keys.sort_without_repeats.Goals as goal
+use Rattle.rn_assemble.proofs.keys.number_names.Goals as goal
 
 pub returns : goal.returns
 returns c =
