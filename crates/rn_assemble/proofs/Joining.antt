@@ -9,7 +9,7 @@ pub mod KeyPatterns
 pub mod DefinedNames
 pub mod FirstComponents
 pub mod DistinctNames
-pub mod PlacedDefinitions
+pub mod KeyedDefinitions
 pub mod HeldStart
 pub mod SharedPatterns
 pub mod SameBodies

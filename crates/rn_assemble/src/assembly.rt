@@ -32,7 +32,7 @@ use crate::named_modules::{NamedModule, read_modules, split_items};
 use crate::references::references_of;
 use crate::refusal::Refusal;
 use crate::seeds::seed_of;
-use crate::settling_order::{KeyOrder, SoundReferences, key_order, settling_order};
+use crate::settling_order::{KeyOrder, SoundReferences, defined_keys, key_order, settling_order};
 use crate::short_uris::ShortUris;
 use crate::shortening::{short_uris_of, shorten_modules};
 use crate::trees::Trees;
@@ -153,8 +153,9 @@ fn combine_keys<'s>(
     check_overrides(alloc, modules, keys, components.lack)?;
     check_methods(alloc, keys, components)?;
     let references = check_references(alloc, keys, components, trees)?;
-    let order = settling_order(alloc, keys, components, references)?;
-    combined_grammar(alloc, keys, components, trees, order)
+    let defined = defined_keys(alloc, components)?;
+    let order = settling_order(alloc, keys, &defined, references)?;
+    combined_grammar(alloc, keys, components, trees, &defined, order)
 }
 
 /// `Override`, where there is a lack: an include of a module defines what the included module lacks (RELAX NG 2001,

@@ -10,7 +10,7 @@ ghost use Rattle.rn_assemble.specs.inside.Patterns.{AreShared, AreSharedBy, AreW
 ghost use Rattle.rn_assemble.specs.inside.Views.{names_of};
 ghost use Rattle.rn_assemble.specs.inside.Tied.{body_of};
 ghost use Rattle.rn_assemble.specs.inside.ContextBindings.{InContext};
-ghost use Rattle.rn_assemble.specs.inside.Listed.{AreGivenUp, AtKey, OfBody, WithBody};
+ghost use Rattle.rn_assemble.specs.inside.Listed.{AreGivenUp, AreGivenUpTo, AtKey, OfBody, WithBody};
 ghost use Rattle.rn_assemble.specs.inside.Trees.{AgreeAt, AgreeElsewhere, StillGone, TreeView, trees_by};
 ghost use Rattle.rn_assemble.specs.Resolve.{resolved_pattern};
 
@@ -77,7 +77,14 @@ impl Combining {
             self.old.shared.items key (λ view names cs. MatchResult result
             (IsKeptPattern cs (key_at names key)) (IsMisnamedAt cs (key_at names key))) }
     {
-        let pattern = combine_key(
+        let count = components.count_of(key);
+        if count == 0 {
+            return Ok(None);
+        }
+        if count == 1 {
+            return combine_one(alloc, keys, components, trees, key, &mut self.near);
+        }
+        let pattern = combine_several(
             alloc,
             keys,
             components,
@@ -185,8 +192,37 @@ fn give_up_tree(
     }
 }
 
-/// The pattern of one component is its own; several are one list, in their order.
-fn combine_key(
+/// The pattern of the key's first component, whose tree is given up.
+fn combine_one(
+    alloc: Global,
+    keys: &Keys<'_>,
+    components: &Components<'_, '_, '_>,
+    trees: &mut Trees<'_>,
+    key: usize,
+    near: &mut Near,
+) -> Result<Option<Pattern>, Refusal>
+    ensures others { AgreeElsewhere (trees_by trees.new.trees.items)
+        (trees_by trees.old.trees.items) key }
+    ensures gone { AreGivenUpTo components.now (trees_by trees.new.trees.items) key 1 }
+    ensures exact { WithBody (names_of keys.now) components.now
+        (body_of components.now.list (row components.now.places.items key) 0)
+        (λ view e. AgreeAt view (trees_by trees.old.trees.items) e.key → MatchResult result
+        (λ p. IsSomeAnd p (λ q. IsWellNamed e.component (pattern_view q)))
+        (IsMisnamedBy e.component)) }
+{
+    let Some(number) = components.body_of(key, 0, near) else {
+        return Ok(None);
+    };
+    let Some(body) = components.body(number, near) else {
+        return Ok(None);
+    };
+    let pattern = resolve_body(alloc, keys, trees, &body);
+    trees.give_up(key, body.component.tree);
+    Ok(Some(pattern?))
+}
+
+/// The pattern of a key with several components: one list of theirs, in their order.
+fn combine_several(
     alloc: Global,
     keys: &Keys<'_>,
     components: &Components<'_, '_, '_>,
@@ -200,17 +236,11 @@ fn combine_key(
     ensures kept { WithShared keys.now (trees_by trees.now.trees.items) components.now
         shared.old.items key
         (λ view names cs. AreSharedBy keys.now view components.now shared.new.items) }
-    ensures exact { WithShared keys.now (trees_by trees.now.trees.items) components.now
+    ensures exact { 1 < length (row components.now.places.items key)
+        → WithShared keys.now (trees_by trees.now.trees.items) components.now
         shared.old.items key (λ view names cs. MatchResult result
         (IsKeptPattern cs (key_at names key)) (IsMisnamedAt cs (key_at names key))) }
 {
-    let count = components.count_of(key);
-    if count == 0 {
-        return Ok(None);
-    }
-    if count == 1 {
-        return component_pattern(alloc, keys, components, trees, key, near);
-    }
     let members = member_patterns(alloc, keys, components, trees, shared, key, near)?;
     Ok(Some(list_by_method(components, key, members, near)))
 }
@@ -230,30 +260,6 @@ fn list_by_method(
     } else {
         choice(members)
     }
-}
-
-/// The pattern of the key's first component.
-fn component_pattern(
-    alloc: Global,
-    keys: &Keys<'_>,
-    components: &Components<'_, '_, '_>,
-    trees: &Trees<'_>,
-    key: usize,
-    near: &mut Near,
-) -> Result<Option<Pattern>, Refusal>
-    ensures { WithBody (names_of keys.now) components.now
-        (body_of components.now.list (row components.now.places.items key) 0)
-        (λ view e. AgreeAt view (trees_by trees.now.trees.items) e.key → MatchResult result
-        (λ p. IsSomeAnd p (λ q. IsWellNamed e.component (pattern_view q)))
-        (IsMisnamedBy e.component)) }
-{
-    let Some(number) = components.body_of(key, 0, near) else {
-        return Ok(None);
-    };
-    let Some(body) = components.body(number, near) else {
-        return Ok(None);
-    };
-    Ok(Some(resolve_body(alloc, keys, trees, &body)?))
 }
 
 /// The patterns of the key's components, each body resolved once.

@@ -1,19 +1,18 @@
 // The patterns of all keys, combined, with the names of the definitions.
-ghost use Rattle.std.specs.Prelude.{◌≡◌, ◌≤◌, List, true, length, IfOk, MatchResult};
-ghost use Rattle.std.specs.List.Sorted.{IsStrictlySortedBy};
-ghost use Rattle.rn_text.specs.Texts.{Text, text_cmp};
+ghost use Rattle.std.specs.Prelude.{◌≡◌, ◌≤◌, true, length, IfOk, MatchResult};
 ghost use Rattle.rn_assemble.specs.Components.{has_key, start_key};
 ghost use Rattle.rn_assemble.specs.inside.CombinedDefinitions.{AreDefinitions};
 ghost use Rattle.rn_assemble.specs.inside.Tied.{HasRow, firsts_of};
 ghost use Rattle.rn_assemble.specs.inside.Joining.{CanBeSettled, IsCombinedGrammar, IsMisnamed};
-ghost use Rattle.rn_assemble.specs.inside.Listed.{Lists, Live, OfTrees};
-ghost use Rattle.rn_assemble.specs.inside.Trees.{TreeView, trees_by};
-ghost use Rattle.rn_assemble.specs.inside.Patterns.{AfterStart, IsFirstAt};
+ghost use Rattle.rn_assemble.specs.inside.Listed.{OfTrees};
+ghost use Rattle.rn_assemble.specs.inside.Trees.{trees_by};
+ghost use Rattle.rn_assemble.specs.inside.Patterns.{AfterStart};
+ghost use Rattle.rn_assemble.specs.inside.ReferenceOrder.{AreDefinedKeys};
 ghost use Rattle.rn_assemble.specs.inside.Views.{names_of};
 
 use crate::combined_grammar::{Combined, CombinedDefinition};
 use crate::combining::Combining;
-use crate::components::{Components, Near};
+use crate::components::Components;
 use crate::firsts::Met;
 use crate::keys::{Keys, START};
 use crate::refusal::Refusal;
@@ -21,19 +20,20 @@ use crate::settling_order::SettlingOrder;
 use crate::trees::Trees;
 use std::alloc::{AllocError, Global};
 
-/// The combined patterns of all keys, those of names in the order of each one's first component. The tree of each
-/// component is given up once it was resolved. The order in which they can be settled is given.
+/// The combined patterns of all keys, those of names in the order of `defined`. The tree of each component is given up
+/// once it was resolved. The order in which they can be settled is given.
 pub(crate) fn combined_grammar<'s>(
     alloc: Global,
     keys: &Keys<'s>,
     components: &Components<'_, '_, '_>,
     trees: &mut Trees<'_>,
+    defined: &[usize],
     order: SettlingOrder,
 ) -> Result<Combined<'s>, Refusal>
     requires { CanBeSettled (names_of keys.now) (trees_by trees.old.trees.items) components.now
-        order.numbers.items }
+        defined.now order.numbers.items }
     ensures { OfTrees keys.now (trees_by trees.old.trees.items) components.now
-        (λ names cs. has_key start_key cs ≡ true
+        (λ names cs. AreDefinedKeys names cs defined.now → has_key start_key cs ≡ true
         → MatchResult result (IsCombinedGrammar cs) (IsMisnamed cs)) }
 {
     let mut combining = Combining::new(alloc, components)?;
@@ -47,6 +47,7 @@ pub(crate) fn combined_grammar<'s>(
         keys,
         components,
         trees,
+        defined,
         &mut combining,
         &mut met,
     )?;
@@ -60,32 +61,30 @@ pub(crate) fn combined_grammar<'s>(
 }
 
 /// The definitions of all names that have components, once start is combined, and the first places of their members.
-/// Each name is combined when the place of its first component comes. `NameClass` names the least one that breaks the
-/// restrictions on name classes, whichever came first.
+/// The keys of the names are `defined`, in the order of the definitions. `NameClass` names the least one that breaks
+/// the restrictions on name classes, whichever came first.
 fn definitions<'s>(
     alloc: Global,
     keys: &Keys<'s>,
     components: &Components<'_, '_, '_>,
     trees: &mut Trees<'_>,
+    defined: &[usize],
     combining: &mut Combining,
     met: &mut Met,
 ) -> Result<(Vec<CombinedDefinition<'s>>, Vec<Vec<u32>>), Refusal>
     requires { length combining.old.shared.items ≡ length components.now.bodies }
     ensures { AfterStart keys.now (trees_by trees.old.trees.items) components.now combining.old
-        (λ cs. MatchResult result (λ made. AreDefinitions cs made.0.items made.1.items)
-        (IsMisnamed cs)) }
+        (λ cs. AreDefinedKeys (names_of keys.now) cs defined.now → MatchResult result
+        (λ made. AreDefinitions cs made.0.items made.1.items) (IsMisnamed cs)) }
 {
-    let mut definitions = Vec::with_capacity(alloc, keys.len())?;
+    let mut definitions = Vec::with_capacity(alloc, defined.len())?;
     let mut firsts = Vec::new(alloc);
-    let mut near = Near::default();
-    for place in 0..components.count() {
-        if let Some(key) = components.first_at(place, &mut near) {
-            if let Some(pattern) = combining.combine_or_note(alloc, keys, components, trees, key)? {
-                let found = components.firsts(alloc, key, met)?;
-                keep_row(alloc, &mut firsts, definitions.len(), found)?;
-                let name = keys.name(key);
-                definitions.push(CombinedDefinition { name, pattern })?;
-            }
+    for key in defined {
+        if let Some(pattern) = combining.combine_or_note(alloc, keys, components, trees, *key)? {
+            let found = components.firsts(alloc, *key, met)?;
+            keep_row(alloc, &mut firsts, definitions.len(), found)?;
+            let name = keys.name(*key);
+            definitions.push(CombinedDefinition { name, pattern })?;
         }
     }
     match combining.refusal(alloc, keys) {
@@ -112,22 +111,4 @@ fn keep_row(
     }
     rows.push(row)?;
     Ok(())
-}
-
-impl<'c, 't, 's> Components<'c, 't, 's> {
-    /// The number of the name whose first component is at that place.
-    pub fn first_at(&self, place: usize, near: &mut Near) -> Option<usize>
-        ensures { (trees : TreeView) (names : List Text) (live : List Live)
-            → Lists names trees self.now live
-            → IsStrictlySortedBy text_cmp names → IsFirstAt names live place result }
-    {
-        let body = self.body_at(place, near)?;
-        let key = self.body(body, near)?.component.key;
-        let first = self.first_of(key)?;
-        if key != START && first == place {
-            Some(key)
-        } else {
-            None
-        }
-    }
 }

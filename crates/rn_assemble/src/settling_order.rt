@@ -10,7 +10,10 @@ ghost use Rattle.rn_assemble.specs.inside.Referred.{AreAllReferences};
 ghost use Rattle.std.specs.List.{AllByRecursion, IsDistinct};
 ghost use Rattle.rn_assemble.specs.Combine.{joined_grammar};
 ghost use Rattle.rn_assemble.specs.SettlingOrder.{IsSettlingOrder};
-ghost use Rattle.rn_assemble.specs.inside.Listed.{OfKeys};
+ghost use Rattle.rn_assemble.specs.inside.Listed.{Lists, Live, OfKeys};
+ghost use Rattle.rn_assemble.specs.inside.Patterns.{IsFirstAt};
+ghost use Rattle.rn_assemble.specs.inside.Trees.{TreeView};
+ghost use Rattle.rn_assemble.specs.inside.Views.{names_of};
 
 use crate::components::{Components, Near};
 use crate::keys::{Keys, START};
@@ -103,27 +106,28 @@ pub(crate) struct SettlingOrder {
     pub likely: LikelyReferences,
 }
 
-/// The order in which the definitions that the components are joined to can be settled, from that of their keys.
+/// The order in which the definitions that components are joined to can be settled, from that of their keys; `defined`
+/// are the keys of the definitions.
 pub(crate) fn settling_order(
     alloc: Global,
     keys: &Keys<'_>,
-    components: &Components<'_, '_, '_>,
+    defined: &[usize],
     references: SoundReferences,
 ) -> Result<SettlingOrder, AllocError>
-    ensures { OfKeys keys.now components.now (λ names cs.
-        IsReferenceOrder names cs references.order.items
-        → IfOk result (λ s. IsSettlingOrder (joined_grammar cs) s.numbers.items)) }
+    ensures { (cs : List Component) → IsStrictlySortedBy text_cmp (names_of keys.now)
+        → AreDefinedKeys (names_of keys.now) cs defined.now
+        → IsReferenceOrder (names_of keys.now) cs references.order.items
+        → IfOk result (λ s. IsSettlingOrder (joined_grammar cs) s.numbers.items) }
 {
     let SoundReferences { everywhere, order } = references;
-    let defined = defined_keys(alloc, components)?;
-    let numbers = definition_numbers(alloc, keys.len(), &defined)?;
-    let likely = LikelyReferences::new(alloc, &everywhere, &defined, &numbers)?;
+    let numbers = definition_numbers(alloc, keys.len(), defined)?;
+    let likely = LikelyReferences::new(alloc, &everywhere, defined, &numbers)?;
     let numbers = numbers_of(alloc, &order, &numbers)?;
     Ok(SettlingOrder { numbers, likely })
 }
 
 /// The keys of the names that the components define, in the order of each one's first component.
-fn defined_keys(
+pub(crate) fn defined_keys(
     alloc: Global,
     components: &Components<'_, '_, '_>,
 ) -> Result<Vec<usize>, AllocError>
@@ -138,6 +142,24 @@ fn defined_keys(
         }
     }
     Ok(keys)
+}
+
+impl<'c, 't, 's> Components<'c, 't, 's> {
+    /// The number of the name whose first component is at that place.
+    pub fn first_at(&self, place: usize, near: &mut Near) -> Option<usize>
+        ensures { (trees : TreeView) (names : List Text) (live : List Live)
+            → Lists names trees self.now live
+            → IsStrictlySortedBy text_cmp names → IsFirstAt names live place result }
+    {
+        let body = self.body_at(place, near)?;
+        let key = self.body(body, near)?.component.key;
+        let first = self.first_of(key)?;
+        if key != START && first == place {
+            Some(key)
+        } else {
+            None
+        }
+    }
 }
 
 /// For each of that many keys, the index of it among the defined ones; 0 for those that aren't among them.

@@ -27,6 +27,7 @@ use Rattle.rn_assemble.specs.inside.Methods.{CanCombine}
 use Rattle.rn_assemble.specs.Refusal.{Lacks, StandsFor, override}
 use Rattle.rn_assemble.specs.Combine.{joined_grammar}
 use Rattle.rn_assemble.specs.SettlingOrder.{IsSettlingOrder}
+use Rattle.rn_assemble.specs.inside.ReferenceOrder.{AreDefinedKeys}
 use Rattle.rn_assemble.specs.inside.Sound.{HasSoundReferences}
 use Rattle.rn_assemble.specs.inside.Views.{AreNamed}
 use Rattle.rn_assemble.proofs.Answering.FirstRefusal.{NoneBelow, none_included, none_lacking, none_combined, none_sound, misnamed_first, combined_grammar_of}
@@ -88,9 +89,12 @@ module _ (modules : List NamedModule) {trees : TreeView} (names : List Text) (x 
       pub passed_methods : NoneBelow modules 9
       passed_methods = none_combined modules passed_overrides can
 
-      -- one component is of the start, and what they are joined to can be settled in an order for it
-      pub can_be_settled : (order : List ℕ) → ((live : List Live) → Lists names trees x live → IsStrictlySortedBy text_cmp names → IsSettlingOrder (joined_grammar (components_in live)) order) → CanBeSettled names trees x order
-      can_be_settled order f = (h.listed.0, h.listed.1, h.in_order, ap (has_key start_key) h.listed.2 ∙ can.start, f h.listed.0 h.listed.1 h.in_order)
+      -- one component is of the start, these are the keys of names that they define, and what they are joined to can be settled in an order for it
+      pub can_be_settled : (defined order : List ℕ)
+          → ((live : List Live) → Lists names trees x live → IsStrictlySortedBy text_cmp names → AreDefinedKeys names (components_in live) defined × IsSettlingOrder (joined_grammar (components_in live)) order) → CanBeSettled names trees x defined order
+      can_be_settled defined order f =
+          let found = f h.listed.0 h.listed.1 h.in_order in
+          (h.listed.0, h.listed.1, h.in_order, ap (has_key start_key) h.listed.2 ∙ can.start, found.0, found.1)
 
       module _ (sound : HasSoundReferences (set_components modules)) where
         passed_references : NoneBelow modules 11

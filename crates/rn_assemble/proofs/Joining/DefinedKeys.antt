@@ -1,25 +1,38 @@
 -- The keys that components define, one place after the other.
-use Rattle.std.proofs.Common.{◌≡◌, inl, inr, ℕ, ◌+◌, ◌-◌, ◌≤◌, false, List, [], ◌∷◌, ◌++◌, length, get_or, map, None, Some, refl, sym, ap, ◌∙◌, subst, arith}
+use Rattle.std.proofs.Common.{◌≡◌, ◌⊎◌, inl, inr, ℕ, zero, suc, ◌+◌, ◌-◌, ◌<◌, ◌≤◌, true, false, List, [], ◌∷◌, ◌++◌, length, get_or, map, None, Some, refl, sym, ap, ◌∙◌, subst, arith, Contains}
 use Rattle.std.specs.List.{AllByRecursion}
 use Rattle.std.proofs.lemmas.List.{map-append}
 use Rattle.rn_text.specs.Texts.{Text}
 use Rattle.rn_assemble.specs.declared.bodies.Body.{Body}
 use Rattle.rn_assemble.specs.Combine.{defined_names}
-use Rattle.rn_assemble.specs.Components.{has_key, name_key}
+use Rattle.rn_assemble.specs.Components.{Component, Key, has_key, name_key, start_key}
 use Rattle.rn_assemble.specs.inside.Keyed.{key_at}
-use Rattle.rn_assemble.specs.inside.Listed.{Live, ListsBy, PlacesRise, components_in}
+use Rattle.rn_assemble.specs.inside.Listed.{IsLive, Live, ListsBy, PlacesRise, components_in}
 use Rattle.rn_assemble.specs.inside.Patterns.{IsFirstAt, before}
 use Rattle.rn_assemble.specs.inside.ReferenceOrder.{AreDefinedKeys}
 use Rattle.rn_assemble.specs.inside.Trees.{TreeView}
-use Rattle.rn_assemble.proofs.Joining.DefinedNames.{defined_new}
-use Rattle.rn_assemble.proofs.Joining.FirstComponents.{all_before, before_next, none_before}
-use Rattle.rn_assemble.proofs.Joining.PlacedDefinitions.{no_new_name, number_name, one_more, places_within}
+use Rattle.rn_assemble.proofs.Expansion.LiveLists.{each_to}
+use Rattle.rn_assemble.proofs.Joining.DefinedNames.{defined_known, defined_new, defined_start}
+use Rattle.rn_assemble.proofs.Joining.FirstComponents.{all_before, before_more, before_next, none_before}
+
+no_new_name : (cs : List Component) (c : Component) (k : Key) → c.key ≡ k → (k ≡ start_key) ⊎ (has_key k cs ≡ true) → defined_names (cs ++ c ∷ []) ≡ defined_names cs
+no_new_name cs c start_key e h = defined_start cs c e
+no_new_name cs c (name_key x) e (inl s) = let wrong : name_key x ≡ start_key = s in cc
+no_new_name cs c (name_key x) e (inr t) = defined_known cs c x e t
+
+-- the name of a number
+pub number_name : (names : List Text) (n : ℕ) → 0 < n → key_at names n ≡ name_key (get_or names (n - 1) [])
+number_name names zero h = absurd (omega (arith, h))
+number_name names (suc i) h = ap (λ j. name_key (get_or names j [])) (let e : i ≡ suc i - 1 = omega arith in e)
 
 each_behind : {X : Type 0} (P : X → Type 0) (xs : List X) (x : X) → AllByRecursion P xs → P x → AllByRecursion P (xs ++ x ∷ [])
 each_behind P [] x h p = (p, tt)
 each_behind P (y ∷ ys) x h p = (h.0, each_behind P ys x h.1 p)
 
 module _ (names : List Text) (live : List Live) (rises : PlacesRise 0 live) where
+  one_more : (p : ℕ) (e : Live) → Contains live e → e.place ≡ p → components_in (before (p + 1) live) ≡ components_in (before p live) ++ e.component ∷ []
+  one_more p e c s = ap (λ es. components_in es) (before_more 0 p live e rises c s) ∙ map-append (λ (d : Live). d.component) (before p live) (e ∷ [])
+
   -- the keys of the components before the place
   abbrev pub KeysBefore : ℕ → List ℕ → Type 0
   KeysBefore p keys = AreDefinedKeys names (components_in (before p live)) keys
@@ -32,7 +45,7 @@ module _ (names : List Text) (live : List Live) (rises : PlacesRise 0 live) wher
   pub keys_same : (p : ℕ) (keys : List ℕ) → IsFirstAt names live p None → KeysBefore p keys → KeysBefore (p + 1) keys
   keys_same p keys f h = elim (before_next p live) [
     | inl k ↦
-        let more = one_more names live rises p k.0 k.1 k.2 in
+        let more = one_more p k.0 k.1 k.2 in
         record {
           named = h.named ∙ ap (map name_key) (sym (ap defined_names more ∙ no_new_name (components_in (before p live)) k.0.component k.0.component.key refl (f k.0 k.1 k.2)));
           within = h.within;
@@ -45,7 +58,7 @@ module _ (names : List Text) (live : List Live) (rises : PlacesRise 0 live) wher
       let cs = components_in (before p live) in
       let x = get_or names (n - 1) [] in
       let key = number_name names n f.0 in
-      let more = one_more names live rises p f.2.0 f.2.1 f.2.2 in
+      let more = one_more p f.2.0 f.2.1 f.2.2 in
       let absent : has_key (name_key x) cs ≡ false = ap (λ k. has_key k cs) (sym key) ∙ f.3 in
       record {
         named = map-append (key_at names) keys (n ∷ []) ∙ (λ i. h.named i ++ key i ∷ []) ∙ sym (map-append name_key (defined_names cs) (x ∷ []))
@@ -54,6 +67,9 @@ module _ (names : List Text) (live : List Live) (rises : PlacesRise 0 live) wher
       }
 
 -- behind the last place
+places_within : {trees : TreeView} (names : List Text) (bodies : List Body) (list : List ℕ) (rows : List (List ℕ)) (live : List Live) (p : ℕ) → ListsBy names trees bodies list rows live → length list ≤ p → AllByRecursion (λ (e : Live). e.place < p) live
+places_within {trees = trees} names bodies list rows live p h l = each_to (IsLive names trees bodies list) (λ (e : Live). e.place < p) (λ e k. omega (arith, k.within, l)) live h.are
+
 pub keys_end : {trees : TreeView} (names : List Text) (bodies : List Body) (list : List ℕ) (rows : List (List ℕ)) (live : List Live) (lists : ListsBy names trees bodies list rows live) (p : ℕ) (keys : List ℕ) → length list ≤ p
     → KeysBefore names live lists.rises p keys → AreDefinedKeys names (components_in live) keys
 keys_end names bodies list rows live lists p keys past h =

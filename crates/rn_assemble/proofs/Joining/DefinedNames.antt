@@ -1,15 +1,18 @@
 -- The names that components define, one component after the other.
-use Rattle.std.proofs.Common.{◌≡◌, Bool, true, false, ◌||◌, cond, List, [], ◌∷◌, ◌++◌, map, filter, not, refl, sym, ap, ◌∙◌, inl, inr, append-nil}
+use Rattle.std.proofs.Common.{◌≡◌, ◌<◌, ℕ, Bool, true, false, ◌||◌, cond, Contains, List, [], ◌∷◌, ◌++◌, length, get_or, map, filter, not, refl, sym, ap, ◌∙◌, inl, inr, append-nil}
 use Rattle.std.specs.Prelude.{bytes_eq}
 use Rattle.std.specs.List.{list_any}
 use Rattle.std.proofs.lemmas.Bool.{false≢true, cases_Bool}
+use Rattle.std.proofs.lemmas.Cmp.{nat_list_eq_equiv}
+use Rattle.std.proofs.lemmas.List.{get_or_default}
 use Rattle.std.proofs.lemmas.List.Elements.{filter-append}
+use Rattle.std.proofs.lemmas.Map.Views.{Contains-from_any, list_any-from_Contains}
 use Rattle.std.proofs.lemmas.Slice.Eq.{bytes_eq-Decides}
-use Rattle.rn_pattern.specs.Tree.{Tree}
 use Rattle.rn_text.specs.Texts.{Text}
 use Rattle.rn_assemble.specs.Combine.{defined_names, first_of, of_key}
 use Rattle.rn_assemble.specs.Components.{Component, Key, has_key, name_key, same_key, start_key}
 use Rattle.rn_assemble.proofs.Combined.Combinations.{is_some, named}
+use Rattle.rn_assemble.proofs.Referring.LeastKeys.{has_none}
 
 or_first : (a b : Bool) → (a || b) ≡ false → a ≡ false
 or_first true b e = e
@@ -72,10 +75,25 @@ none_of_key : (k : Key) (cs : List Component) → has_key k cs ≡ false → of_
 none_of_key k [] e = refl
 none_of_key k (c ∷ cs) e = none_at (same_key k c.key) c (of_key k cs) (has_key k cs) e (none_of_key k cs)
 
-pub not_among : (x : Text) (cs : List Component) → has_key (name_key x) cs ≡ false → list_any (bytes_eq x) (defined_names cs) ≡ false
+not_among : (x : Text) (cs : List Component) → has_key (name_key x) cs ≡ false → list_any (bytes_eq x) (defined_names cs) ≡ false
 not_among x cs n = named x cs ∙ ap (λ ds. is_some (map (λ (c : Component). c.body) ds)) (none_of_key (name_key x) cs n)
 
--- the names of definitions
-pub names_mapped : (f : Text → Tree) (xs : List Text) → map (λ (d : Text × Tree). d.0) (map (λ (x : Text). (x, f x)) xs) ≡ xs
-names_mapped f [] = refl
-names_mapped f (x ∷ xs) = ap (λ ys. x ∷ ys) (names_mapped f xs)
+-- a name that is one of them has a component
+pub defined_has : (x : Text) (cs : List Component) → Contains (defined_names cs) x → has_key (name_key x) cs ≡ true
+defined_has x cs c = elim (cases_Bool (has_key (name_key x) cs)) [
+  | inl t ↦ t
+  | inr none ↦ absurd (false≢true (sym (not_among x cs none) ∙ list_any-from_Contains {eq = bytes_eq} nat_list_eq_equiv x (defined_names cs) c))
+]
+
+none_in : (cs : List Component) → is_some (map (λ (c : Component). c.body) cs) ≡ false → length cs ≡ 0
+none_in [] e = refl
+none_in (c ∷ cs) e = absurd (false≢true (sym e))
+
+-- a name that has a component is one of them
+pub has_defined : (x : Text) (cs : List Component) → has_key (name_key x) cs ≡ true → (j : ℕ) × (j < length (defined_names cs)) × (get_or (defined_names cs) j [] ≡ x)
+has_defined x cs t = elim (cases_Bool (list_any (bytes_eq x) (defined_names cs))) [
+  | inl among ↦
+      let c = Contains-from_any {eq = bytes_eq} (λ a b e. (bytes_eq-Decides a b).0 e) x (defined_names cs) among in
+      (c.0, c.1, get_or_default (defined_names cs) c.0 [] x c.1 ∙ c.2)
+  | inr none ↦ absurd (false≢true (sym (has_none (name_key x) cs (none_in (of_key (name_key x) cs) (sym (named x cs) ∙ none))) ∙ t))
+]

@@ -29,7 +29,7 @@ use Rattle.rn_assemble.proofs.Referring.JoinedReferences.{definition_refers_outs
 use Rattle.rn_assemble.proofs.Referring.KeyNumbers.{keyed_name, same_number}
 use Rattle.rn_assemble.proofs.Referring.MarkedPlaces.{different}
 
-above_start : (names : List Text) (x : Text) (n : ℕ) → key_at names n ≡ name_key x → 0 < n
+pub above_start : (names : List Text) (x : Text) (n : ℕ) → key_at names n ≡ name_key x → 0 < n
 above_start names x zero e = let wrong : start_key ≡ name_key x = e in cc
 above_start names x (suc n) e = omega arith
 
@@ -50,19 +50,19 @@ module _ (names : List Text) (cs : List Component) (keys : List ℕ) (defined : 
   definition x = (x, joined_pattern cs (name_key x))
 
   -- the name of the definition with the number j
-  abbrev name_of : ℕ → Text
+  abbrev pub name_of : ℕ → Text
   name_of j = (get_or (joined_grammar cs).definitions j nothing).0
 
-  size : length keys ≡ length (joined_grammar cs).definitions
+  pub size : length keys ≡ length (joined_grammar cs).definitions
   size = sym (length-map keys (key_at names)) ∙ ap length defined.named ∙ length-map (defined_names cs) name_key ∙ sym (length-map (defined_names cs) definition)
 
-  key_named : (j : ℕ) → j < length keys → key_at names (get_or keys j 0) ≡ name_key (name_of j)
+  pub key_named : (j : ℕ) → j < length keys → key_at names (get_or keys j 0) ≡ name_key (name_of j)
   key_named j l =
       let m : j < length (defined_names cs) = omega (arith, l, size, length-map (defined_names cs) definition) in
       sym (get_or-map (key_at names) keys j 0 start_key l) ∙ ap (λ ks. get_or ks j start_key) defined.named ∙ get_or-map name_key (defined_names cs) j [] start_key m
       ∙ ap name_key (sym (ap (λ (d : Text × Tree). d.0) (get_or-map definition (defined_names cs) j [] nothing m)))
 
-  keys_differ : (i j : ℕ) → i < j → j < length keys → get_or keys i 0 ≡ get_or keys j 0 → ⊥
+  pub keys_differ : (i j : ℕ) → i < j → j < length keys → get_or keys i 0 ≡ get_or keys j 0 → ⊥
   keys_differ i j l m e =
       let far = differ_at (joined_grammar cs).definitions i j (joined_distinct cs) l (omega (arith, m, size)) in
       let same = keyed_name (name_of i) (name_of j) (sym (key_named i (omega (arith, l, m))) ∙ ap (key_at names) e ∙ key_named j m) in

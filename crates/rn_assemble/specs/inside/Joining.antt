@@ -11,15 +11,16 @@ use Rattle.rn_assemble.specs.Combine.{joined_grammar}
 use Rattle.rn_assemble.specs.inside.CombinedView.{combined_view}
 use Rattle.rn_assemble.specs.Least.{IsLeast, key_cmp}
 use Rattle.rn_assemble.specs.inside.Listed.{Live, Lists, components_in}
+use Rattle.rn_assemble.specs.inside.ReferenceOrder.{AreDefinedKeys}
 use Rattle.rn_assemble.specs.inside.Trees.{TreeView}
 use Rattle.rn_assemble.specs.Refusal.{BreaksNameRules}
 use Rattle.rn_assemble.specs.Refused.{key_view}
 use Rattle.rn_assemble.specs.SettlingOrder.{IsSettlingOrder}
 
--- the components are listed by the numbers of these names and have these trees, one of them is of the start, and what they are joined to can be settled in this order
-abbrev pub CanBeSettled : List Text → TreeView → Components → List ℕ → Type 0
-CanBeSettled names trees x order = (live : List Live) × Lists names trees x live × IsStrictlySortedBy text_cmp names × (has_key start_key (components_in live) ≡ true)
-    × IsSettlingOrder (joined_grammar (components_in live)) order
+-- the components are listed by the numbers of these names and have these trees, one of them is of the start, these keys are those that they define, and what they are joined to can be settled in this order
+abbrev pub CanBeSettled : List Text → TreeView → Components → (defined order : List ℕ) → Type 0
+CanBeSettled names trees x defined order = (live : List Live) × Lists names trees x live × IsStrictlySortedBy text_cmp names × (has_key start_key (components_in live) ≡ true)
+    × AreDefinedKeys names (components_in live) defined × IsSettlingOrder (joined_grammar (components_in live)) order
 
 -- the components' grammar, in which no key breaks the restrictions on name classes
 pub record IsCombinedGrammar (cs : List Component) (c : Combined) : Type 0 where

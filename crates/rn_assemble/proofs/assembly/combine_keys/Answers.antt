@@ -1,5 +1,8 @@
+use Rattle.std.proofs.Common.{sym, subst}
 use Rattle.std.proofs.lemmas.Result.{err_from_is_err_and}
+use Rattle.rn_assemble.specs.inside.Listed.{components_in}
 use Rattle.rn_assemble.specs.inside.Methods.{CanCombine, IsUncombined}
+use Rattle.rn_assemble.specs.inside.ReferenceOrder.{AreDefinedKeys}
 use Rattle.rn_assemble.specs.inside.Sound.{HasSoundReferences, IsUnsound}
 use Rattle.rn_assemble.specs.inside.Views.{names_of}
 use Rattle.rn_assemble.proofs.Answering.FirstRefusal.{uncombined_first, unsound_first}
@@ -34,8 +37,10 @@ combined_grammar-requires c =
     let (ms, named, h) = c.requires in
     let names = names_of c.args.keys.now in
     let x = c.args.components.now in
-    can_be_settled ms names x h (c.in_ok-check_overrides.ensures ms named h.lack) (at_set ms names x h CanCombine (c.in_ok-check_methods.ensures _)) c.in_ok-order.order.numbers.items
-    (λ live l s. c.in_ok-order.ensures _ live l s (c.in_ok-references.ensures live l s).1)
+    can_be_settled ms names x h (c.in_ok-check_overrides.ensures ms named h.lack) (at_set ms names x h CanCombine (c.in_ok-check_methods.ensures _)) c.deref-2.result.now c.in_ok-order.order.numbers.items
+    (λ live l s.
+    let d = c.in_ok-defined.ensures c.args.keys.now _ live l s in
+    (subst (AreDefinedKeys names (components_in live)) (sym c.deref-2.ensures.value) d, c.in_ok-order.ensures (components_in live) s (subst (AreDefinedKeys names (components_in live)) (sym c.deref.ensures.value) d) (c.in_ok-references.ensures live l s).1))
 
 pub returns : goal.returns
 returns c = λ ms named h.
@@ -43,4 +48,5 @@ returns c = λ ms named h.
     let x = c.args.components.now in
     let can = at_set ms names x h CanCombine (c.in_ok-check_methods.ensures _) in
     let sound = at_set ms names x h HasSoundReferences (λ live l s. (c.in_ok-references.ensures live l s).0) in
-    combined_or_first ms names x h (c.in_ok-check_overrides.ensures ms named h.lack) can sound c.combined_grammar.result c.combined_grammar.ensures
+    combined_or_first ms names x h (c.in_ok-check_overrides.ensures ms named h.lack) can sound c.combined_grammar.result
+    (λ live l s. c.combined_grammar.ensures live l s (subst (AreDefinedKeys names (components_in live)) (sym c.deref-2.ensures.value) (c.in_ok-defined.ensures c.args.keys.now _ live l s)))

@@ -20,7 +20,7 @@ pub combine-requires : goal.combine-requires
 combine-requires c = (c.in_ok-combining.ensures.shared (names_of c.args.keys.now) (trees_by c.args.trees.now.trees.items)).size
 
 pub returns-in_err-combine : goal.returns-in_err-combine
-returns-in_err-combine c = λ live h o t.
+returns-in_err-combine c = λ live h o d t.
     let x = c.args.components.now in
     let names = names_of c.args.keys.now in
     let cs = components_in live in
@@ -31,7 +31,7 @@ returns-in_err-combine c = λ live h o t.
 
 pub unwrap-start-requires : goal.unwrap-start-requires
 unwrap-start-requires c =
-    let (live, h, o, t, order) = c.requires in
+    let (live, h, o, t, d, order) = c.requires in
     let trees = trees_by c.args.trees.now.trees.items in
     let kept = c.in_ok-combine.ensures.exact trees (λ number. refl) live h o (omega arith) (c.in_ok-combining.ensures.shared (names_of c.args.keys.now) trees) in
     start_held (components_in live) c.in_ok-combine.field-0 kept t
@@ -40,24 +40,24 @@ pub definitions-requires : goal.definitions-requires
 definitions-requires c = c.combine.ensures.size ∙ (c.in_ok-combining.ensures.shared (names_of c.args.keys.now) (trees_by c.args.trees.now.trees.items)).size
 
 pub returns-in_err-definitions : goal.returns-in_err-definitions
-returns-in_err-definitions c = λ live h o t.
+returns-in_err-definitions c = λ live h o d t.
     let cs = components_in live in
     let trees = trees_by c.args.trees.now.trees.items in
     let shared = c.in_ok-combining.ensures.shared (names_of c.args.keys.now) trees in
     let kept = c.in_ok-combine.ensures.exact trees (λ number. refl) live h o (omega arith) shared in
     let misnamed = c.in_err-definitions.ensures trees (others_agree trees (trees_by c.combine.new.trees.trees.items) c.combine.ensures.others) live h o kept.1
-    (c.combine.ensures.least ∙ c.in_ok-combining.ensures.least) (c.combine.ensures.kept trees (λ number. refl) live h o (omega arith) shared) in
+    (c.combine.ensures.least ∙ c.in_ok-combining.ensures.least) (c.combine.ensures.kept trees (λ number. refl) live h o (omega arith) shared) d in
     refused_by (IsCombinedGrammar cs) (IsMisnamed cs) c.from_residual-in_err-definitions.result c.in_err-definitions.field-0.0 c.from_residual-in_err-definitions.ensures.1 misnamed
 
 pub invariant_of-result : goal.invariant_of-result
 invariant_of-result c =
-    let (live, h, o, t, order) = c.requires in
+    let (live, h, o, t, d, order) = c.requires in
     let cs = components_in live in
     let trees = trees_by c.args.trees.now.trees.items in
     let shared = c.in_ok-combining.ensures.shared (names_of c.args.keys.now) trees in
     let kept = c.in_ok-combine.ensures.exact trees (λ number. refl) live h o (omega arith) shared in
     let made = c.in_ok-definitions.ensures trees (others_agree trees (trees_by c.combine.new.trees.trees.items) c.combine.ensures.others) live h o kept.1
-    (c.combine.ensures.least ∙ c.in_ok-combining.ensures.least) (c.combine.ensures.kept trees (λ number. refl) live h o (omega arith) shared) in
+    (c.combine.ensures.least ∙ c.in_ok-combining.ensures.least) (c.combine.ensures.kept trees (λ number. refl) live h o (omega arith) shared) d in
     let held : Some (pattern_view c.unwrap-start.result) ≡ Some (joined_pattern cs start_key) = ap (option_map pattern_view) (sym c.unwrap-start.ensures) ∙ start_tree cs c.in_ok-combine.field-0 kept t in
     let start : pattern_view c.unwrap-start.result ≡ joined_pattern cs start_key = cc in
     let firsts = c.in_ok-start_firsts.start_firsts.items in
@@ -70,13 +70,13 @@ invariant_of-result c =
     }
 
 pub returns : goal.returns
-returns c = λ live h o t.
+returns c = λ live h o d t.
     let cs = components_in live in
     let trees = trees_by c.args.trees.now.trees.items in
     let shared = c.in_ok-combining.ensures.shared (names_of c.args.keys.now) trees in
     let kept = c.in_ok-combine.ensures.exact trees (λ number. refl) live h o (omega arith) shared in
     let made = c.in_ok-definitions.ensures trees (others_agree trees (trees_by c.combine.new.trees.trees.items) c.combine.ensures.others) live h o kept.1
-    (c.combine.ensures.least ∙ c.in_ok-combining.ensures.least) (c.combine.ensures.kept trees (λ number. refl) live h o (omega arith) shared) in
+    (c.combine.ensures.least ∙ c.in_ok-combining.ensures.least) (c.combine.ensures.kept trees (λ number. refl) live h o (omega arith) shared) d in
     let held : Some (pattern_view c.unwrap-start.result) ≡ Some (joined_pattern cs start_key) = ap (option_map pattern_view) (sym c.unwrap-start.ensures) ∙ start_tree cs c.in_ok-combine.field-0 kept t in
     let start : pattern_view c.unwrap-start.result ≡ joined_pattern cs start_key = cc in
     record { is = λ i. record { start = start i; definitions = made.are i }; keeps = made.keep }

@@ -1,0 +1,186 @@
+-- The definitions of a grammar, made key by key.
+use Rattle.std.proofs.Common.{◌≡◌, inl, inr, ℕ, zero, suc, ◌+◌, ◌-◌, ◌<◌, ◌≤◌, true, cond, List, [], ◌∷◌, ◌++◌, length, get_or, take, min, Option, Some, None, refl, sym, ap, ◌∙◌, subst, arith}
+use Rattle.std.specs.Prelude.{IfSome, IsSomeAnd, Vec, ⊤}
+use Rattle.std.specs.List.Sorted.{IsStrictlySortedBy}
+use Rattle.std.specs.declared.alloc.Global.{Global}
+use Rattle.std.proofs.lemmas.Bool.{cases_lt}
+use Rattle.std.proofs.lemmas.List.{get_or-map, length-map, length_push, map-append, take_all, take_more}
+use Rattle.std.proofs.lemmas.List.Elements.{Contains-get_or}
+use Rattle.rn_pattern.specs.Tree.{Tree}
+use Rattle.rn_pattern.proofs.Ordered.InOrder.{contained_each}
+use Rattle.rn_text.specs.Texts.{Text, text_cmp}
+use Rattle.rn_pattern.specs.View.{pattern_view}
+use Rattle.rn_assemble.specs.declared.bodies.Body.{Body}
+use Rattle.rn_assemble.specs.declared.combined_grammar.CombinedDefinition.{CombinedDefinition}
+use Rattle.rn_assemble.specs.declared.refusal.Refusal.{Refusal}
+use Rattle.rn_assemble.specs.Combine.{defined_names, joined_grammar, joined_pattern}
+use Rattle.rn_assemble.specs.Components.{Component, has_key, name_key, start_key}
+use Rattle.rn_assemble.specs.inside.CombinedDefinitions.{AreDefinitions, combined_definitions}
+use Rattle.rn_assemble.specs.Firsts.{joined_members}
+use Rattle.rn_assemble.specs.Refusal.{BreaksNameRules}
+use Rattle.rn_assemble.specs.inside.Joining.{IsMisnamed}
+use Rattle.rn_assemble.specs.inside.ReferenceOrder.{AreDefinedKeys}
+use Rattle.rn_assemble.specs.inside.Tied.{AreTied, HasRow, HaveTied, firsts_of}
+use Rattle.rn_assemble.specs.inside.Keyed.{key_at}
+use Rattle.rn_assemble.specs.inside.Listed.{Live, ListsBy, components_in}
+use Rattle.rn_assemble.specs.inside.Patterns.{IsKeptPattern, IsMisnamedAs, lesser}
+use Rattle.rn_assemble.specs.inside.Trees.{AgreeAt, AgreeElsewhere, TreeView}
+use Rattle.rn_assemble.proofs.Joining.FirstMembers.{tied_more}
+use Rattle.rn_assemble.proofs.Joining.DefinedKeys.{number_name}
+use Rattle.rn_assemble.proofs.Joining.DefinedNames.{defined_has, has_defined}
+use Rattle.rn_assemble.proofs.Joining.KeyPatterns.{breaks_has, misnamed_first, misnamed_for}
+use Rattle.rn_assemble.proofs.Joining.SettlingOrders.{above_start, key_named, keys_differ, size}
+use Rattle.rn_assemble.proofs.Referring.DefinitionNumbers.{nothing}
+use Rattle.rn_assemble.proofs.Referring.KeyNumbers.{keyed_name, same_at}
+use Rattle.rn_assemble.proofs.Referring.LeastKeys.{no_key}
+
+-- ---- the least number noted
+
+lesser_both : (P : ℕ → Type 0) (n m : ℕ) → P n → P m → P (min n m)
+lesser_both P n m a b = elim (cases_lt n m) [
+  | inl l ↦ subst P (let e : n ≡ min n m = omega (arith, l) in e) a
+  | inr g ↦ subst P (let e : m ≡ min n m = omega (arith, g) in e) b
+]
+
+lesser_all : (P : ℕ → Type 0) (n : ℕ) (least : Option ℕ) → P n → IfSome least P → IfSome (lesser n least) P
+lesser_all P n None a h = a
+lesser_all P n (Some m) a h = lesser_both P n m a h
+
+lesser_kept : (n j : ℕ) (least : Option ℕ) → IsSomeAnd least (λ m. m ≤ j) → IsSomeAnd (lesser n least) (λ m. m ≤ j)
+lesser_kept n j None h = absurd h
+lesser_kept n j (Some m) h = let l : min n m ≤ j = omega (arith, h) in l
+
+lesser_here : (n : ℕ) (least : Option ℕ) → IsSomeAnd (lesser n least) (λ m. m ≤ n)
+lesser_here n None = omega arith
+lesser_here n (Some m) = let l : min n m ≤ n = omega arith in l
+
+module _ (names : List Text) (cs : List Component) (keys : List ℕ) where
+  abbrev key_of : ℕ → ℕ
+  key_of i = get_or keys i 0
+
+  -- the definitions of the keys before the index are made or noted, with the first places of their members; the trees of the others are what they were
+  pub record Defining (first now : TreeView) (least : Option ℕ) (entries : List CombinedDefinition) (rows : List (List ℕ)) (i : ℕ) : Type 0 where
+    pub made : least ≡ None → combined_definitions entries ≡ take i (joined_grammar cs).definitions
+    pub size : length rows ≤ length (combined_definitions entries)
+    pub tied : HaveTied rows (combined_definitions entries)
+    pub noted : (j : ℕ) → j < i → BreaksNameRules cs (key_at names (key_of j)) → IsSomeAnd least (λ m. m ≤ key_of j)
+    pub breaks : IfSome least (λ m. (m < suc (length names)) × BreaksNameRules cs (key_at names m))
+    pub left : (j : ℕ) → i ≤ j → j < length keys → AgreeAt first now (key_of j)
+
+  module _ (defined : AreDefinedKeys names cs keys) where
+    abbrev definition : Text → Text × Tree
+    definition x = (x, joined_pattern cs (name_key x))
+
+    -- what is known of the key at an index
+    pub key_within : (i : ℕ) → i < length keys → key_of i < suc (length names)
+    key_within i l = contained_each (λ k. k < suc (length names)) keys defined.within (key_of i) (Contains-get_or keys i 0 l)
+
+    abbrev name_of : ℕ → Text
+    name_of i = get_or (defined_names cs) i []
+
+    pub count : length (defined_names cs) ≡ length keys
+    count = sym (size names cs keys defined ∙ length-map (defined_names cs) definition)
+
+    definition_at : (i : ℕ) → i < length keys → get_or (joined_grammar cs).definitions i nothing ≡ (name_of i, joined_pattern cs (name_key (name_of i)))
+    definition_at i l = get_or-map definition (defined_names cs) i [] nothing (omega (arith, l, count))
+
+    key_is : (i : ℕ) → i < length keys → key_at names (key_of i) ≡ name_key (name_of i)
+    key_is i l = key_named names cs keys defined i l ∙ ap (λ (d : Text × Tree). name_key d.0) (definition_at i l)
+
+    pub key_above : (i : ℕ) → i < length keys → 0 < key_of i
+    key_above i l = above_start names (name_of i) (key_of i) (key_is i l)
+
+    pub key_has : (i : ℕ) → i < length keys → has_key (key_at names (key_of i)) cs ≡ true
+    key_has i l =
+        let c = Contains-get_or (defined_names cs) i [] (omega (arith, l, count)) in
+        ap (λ k. has_key k cs) (key_is i l) ∙ defined_has (name_of i) cs c
+
+    pub defining_begins : (first now : TreeView) → ((n : ℕ) → 0 < n → AgreeAt first now n) → Defining first now None [] [] 0
+    defining_begins first now agree = record {
+      made = λ _. refl;
+      size = omega arith;
+      tied = λ n d l. absurd (omega (arith, l));
+      noted = λ j l b. absurd (omega (arith, l));
+      breaks = tt;
+      left = λ j g l. agree (key_of j) (key_above j l);
+    }
+
+    module _ (first now : TreeView) (least : Option ℕ) (entries : List CombinedDefinition) (rows : List (List ℕ)) (i : ℕ) (l : i < length keys) (h : Defining first now least entries rows i) where
+      abbrev key : ℕ
+      key = key_of i
+
+      others_left : (then : TreeView) → AgreeElsewhere then now key → (j : ℕ) → i + 1 ≤ j → j < length keys → AgreeAt first then (key_of j)
+      others_left then agree j g m number =
+          h.left j (omega (arith, g)) m number ∙ sym (agree (key_of j) (λ e. keys_differ names cs keys defined i j (omega (arith, g)) m (sym e)) number)
+
+      earlier_or_here : (P : ℕ → Type 0) → ((j : ℕ) → j < i → P j) → P i → (j : ℕ) → j < i + 1 → P j
+      earlier_or_here P f p j m = elim (cases_lt j i) [ inl earlier ↦ f j earlier | inr late ↦ subst P (let e : i ≡ j = omega (arith, m, late) in e) p ]
+
+      -- the key has a pattern, and its definition is added
+      pub defining_more : (then : TreeView) (rows' : List (List ℕ)) (v : List ℕ) (d : CombinedDefinition) → IsKeptPattern cs (key_at names key) (Some d.pattern) → AgreeElsewhere then now key
+          → d.name.now ≡ get_or names (key - 1) [] → HasRow rows rows' (length entries) v → AreTied v (joined_members (joined_pattern cs (key_at names key))) → Defining first then least (entries ++ d ∷ []) rows' (i + 1)
+      defining_more then rows' v d kept agree name has tied =
+          let x = name_of i in
+          let same : get_or names (key - 1) [] ≡ x = keyed_name (get_or names (key - 1) []) x (sym (number_name names key (key_above i l)) ∙ key_is i l) in
+          let tree : Some (pattern_view d.pattern) ≡ Some (joined_pattern cs (key_at names key)) = kept.0 ∙ ap (λ b. cond b (Some (joined_pattern cs (key_at names key))) None) (key_has i l) in
+          let here : pattern_view d.pattern ≡ joined_pattern cs (key_at names key) = cc in
+          let body : pattern_view d.pattern ≡ joined_pattern cs (name_key x) = here ∙ ap (joined_pattern cs) (key_is i l) in
+          let view : CombinedDefinition → Text × Tree = λ (e : CombinedDefinition). (e.name.now, pattern_view e.pattern) in
+          let added : combined_definitions (entries ++ d ∷ []) ≡ combined_definitions entries ++ view d ∷ [] = map-append view entries (d ∷ []) in
+          let count = length-map entries view in
+          record {
+            made = λ none. added ∙ (λ k. h.made none k ++ ((name ∙ same) k, body k) ∷ []) ∙ ap (λ e. take i (joined_grammar cs).definitions ++ e ∷ []) (sym (definition_at i l))
+                ∙ sym (take_more (joined_grammar cs).definitions i nothing (omega (arith, l, size names cs keys defined)));
+            size = omega (arith, has.within, length_push entries d, length-map (entries ++ d ∷ []) view);
+            tied = subst (HaveTied rows') (sym added) (tied_more rows rows' (combined_definitions entries) v (view d) (subst (λ k. HasRow rows rows' k v) (sym count) has) h.tied (subst (λ t. AreTied v (joined_members t)) (sym here) tied));
+            noted = earlier_or_here (λ j. BreaksNameRules cs (key_at names (key_of j)) → IsSomeAnd least (λ m. m ≤ key_of j)) h.noted (λ b. absurd (kept.1 b));
+            breaks = h.breaks;
+            left = others_left then agree;
+          }
+
+      -- it breaks the restrictions on name classes, and is noted
+      pub defining_noted : (then : TreeView) → BreaksNameRules cs (key_at names key) → AgreeElsewhere then now key → Defining first then (lesser key least) entries rows (i + 1)
+      defining_noted then breaks agree = record {
+        made = λ none. cc;
+        size = h.size;
+        tied = h.tied;
+        noted = earlier_or_here (λ j. BreaksNameRules cs (key_at names (key_of j)) → IsSomeAnd (lesser key least) (λ m. m ≤ key_of j)) (λ j m b. lesser_kept key (key_of j) least (h.noted j m b)) (λ b. lesser_here key least);
+        breaks = lesser_all (λ m. (m < suc (length names)) × BreaksNameRules cs (key_at names m)) key least (key_within i l, breaks) h.breaks;
+        left = others_left then agree;
+      }
+
+-- ---- behind the last key
+
+module _ {first : TreeView} (names : List Text) (bodies : List Body) (list : List ℕ) (places : List (List ℕ)) (live : List Live) (lists : ListsBy names first bodies list places live) (o : IsStrictlySortedBy text_cmp names) (start_keeps : ¬ BreaksNameRules (components_in live) start_key)
+    (keys : List ℕ) (defined : AreDefinedKeys names (components_in live) keys) (now : TreeView) (entries : List CombinedDefinition) (firsts : List (Vec ℕ Global)) (i : ℕ) (past : length keys ≤ i) where
+  abbrev cs : List Component
+  cs = components_in live
+
+  abbrev Ends : Option ℕ → Type 0
+  Ends least = Defining names cs keys first now least entries (firsts_of firsts) i
+
+  noted_before : (least : Option ℕ) → Ends least → (m : ℕ) → m < suc (length names) → BreaksNameRules cs (key_at names m) → IsSomeAnd least (λ j. j ≤ m)
+  noted_before least h zero l b = absurd (start_keeps b)
+  noted_before least h (suc n) l b =
+      let x = get_or names n [] in
+      let at = has_defined x cs b.0 in
+      let j = at.0 in
+      let within : j < length keys = omega (arith, at.1, count names cs keys defined) in
+      let same : get_or keys j 0 ≡ suc n = same_at names o (get_or keys j 0) (suc n) (key_within names cs keys defined j within) l (key_is names cs keys defined j within ∙ ap name_key at.2) in
+      subst (λ k. IsSomeAnd least (λ m. m ≤ k)) same (h.noted j (omega (arith, within, past)) (subst (λ k. BreaksNameRules cs (key_at names k)) (sym same) b))
+
+  -- all names are defined where none was noted
+  pub defining_ends : (least : Option ℕ) → Ends least → least ≡ None → AreDefinitions cs entries firsts
+  defining_ends least h none = record {
+    are = h.made none ∙ take_all i (joined_grammar cs).definitions (omega (arith, past, size names cs keys defined));
+    tied = h.tied;
+    keep = no_key names o (BreaksNameRules cs) (breaks_has names bodies list places live lists o) (λ m l b. subst (λ s. IsSomeAnd s (λ j. j ≤ m)) none (noted_before least h m l b));
+  }
+
+  -- the noted key is refused
+  pub noted_refused : (least : Option ℕ) (q : Refusal) → Ends least → IsSomeAnd least (λ n. n < length names + 1 → IsMisnamedAs (key_at names n) ⊤ q) → IsMisnamed cs q
+  noted_refused None q h refused = absurd refused
+  noted_refused (Some n) q h refused =
+      misnamed_first names bodies list places live lists o n q h.breaks.0
+      (λ k below b. let upto : n ≤ k = noted_before (Some n) h k (omega (arith, below, h.breaks.0)) b in omega (arith, upto, below))
+      (misnamed_for (key_at names n) (key_at names n) ⊤ (BreaksNameRules cs (key_at names n)) q refl (λ _. h.breaks.1) (refused (omega (arith, h.breaks.0))))
