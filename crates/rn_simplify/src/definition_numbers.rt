@@ -17,17 +17,45 @@ pub(crate) struct Likely<'r> {
     numbers: &'r [u32],
     /// The place of the number that is tried first.
     next: usize,
+    /// The number behind the one that was found last. In a list that is in order, names follow one another as their
+    /// definitions mostly do.
+    behind: usize,
 }
 
 impl<'r> Likely<'r> {
     /// These numbers, of which the first one is tried first.
     pub(crate) fn of(numbers: &'r [u32]) -> Likely<'r> {
-        Likely { numbers, next: 0 }
+        Likely {
+            numbers,
+            next: 0,
+            behind: 0,
+        }
+    }
+
+    /// Notes the number that was found, if one was.
+    fn note(&mut self, found: Option<usize>) {
+        if let Some(number) = found {
+            self.behind = number.saturating_add(1);
+        }
     }
 }
 
 /// The number of the definition of a name. The likely numbers are tried first.
 pub(crate) fn find_number(
+    definitions: &Definitions,
+    likely: &mut Likely<'_>,
+    name: &str,
+) -> Option<usize>
+    ensures number { result ≡ number_of (definitions_view definitions.now.entries) name.now }
+    ensures within { IfSome result (λ k. k < length definitions.now.entries) }
+{
+    let found = number_by_name(definitions, likely, name);
+    likely.note(found);
+    found
+}
+
+/// The number of the definition of a name, by the likely numbers or by the map.
+fn number_by_name(
     definitions: &Definitions,
     likely: &mut Likely<'_>,
     name: &str,
@@ -41,15 +69,31 @@ pub(crate) fn find_number(
     }
 }
 
-/// The likely number whose definition has the name, if it is the next one or they are few.
+/// The likely number whose definition has the name, if it is the next one or they are few; else the number behind the
+/// one that was found last, if its definition has the name.
 fn find_likely(definitions: &Definitions, likely: &mut Likely<'_>, name: &str) -> Option<usize>
     ensures { IfSome result
         (λ k. number_of (definitions_view definitions.now.entries) name.now ≡ Some k) }
 {
     match find_next(definitions, likely, name) {
         Some(number) => Some(number),
-        None => find_among(definitions, likely.numbers, name),
+        None => find_elsewhere(definitions, likely, name),
     }
+}
+
+/// The one of few likely numbers whose definition has the name. Where they are many, the number behind the one that was
+/// found last, if its definition has the name.
+fn find_elsewhere(definitions: &Definitions, likely: &Likely<'_>, name: &str) -> Option<usize>
+    ensures { IfSome result
+        (λ k. number_of (definitions_view definitions.now.entries) name.now ≡ Some k) }
+{
+    if likely.numbers.len() <= FEW_NUMBERS {
+        return find_among(definitions, likely.numbers, name);
+    }
+    if is_named(definitions, likely.behind, name) {
+        return Some(likely.behind);
+    }
+    None
 }
 
 /// The next likely number, if its definition has the name. The one behind it is the next one then.
@@ -65,14 +109,11 @@ fn find_next(definitions: &Definitions, likely: &mut Likely<'_>, name: &str) -> 
     Some(number)
 }
 
-/// The one of a few numbers whose definition has the name.
+/// The first of the numbers whose definition has the name.
 fn find_among(definitions: &Definitions, numbers: &[u32], name: &str) -> Option<usize>
     ensures { IfSome result
         (λ k. number_of (definitions_view definitions.now.entries) name.now ≡ Some k) }
 {
-    if numbers.len() > FEW_NUMBERS {
-        return None;
-    }
     for number in numbers {
         let number = *number as usize;
         if is_named(definitions, number, name) {

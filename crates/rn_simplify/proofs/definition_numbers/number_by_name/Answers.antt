@@ -4,7 +4,7 @@ use Rattle.rn_assemble.specs.GrammarView.{definitions_view}
 use Rattle.rn_simplify.specs.inside.DefinitionNumbers.{number_of}
 use Rattle.rn_simplify.proofs.Simplified.DefinitionNumbers.{number_is, size_of_view}
 use Rattle.rn_simplify.proofs.Simplified.ReferenceGraph.{is_at}
-use Rattle.rn_simplify.proofs.definition_numbers.find_number.Goals as goal
+use Rattle.rn_simplify.proofs.definition_numbers.number_by_name.Goals as goal
 
 pub returns-in-Some-clause-number : goal.returns-in-Some-clause-number
 returns-in-Some-clause-number c =
