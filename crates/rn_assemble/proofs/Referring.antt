@@ -12,3 +12,4 @@ pub mod LeastKeys
 pub mod MarkedPlaces
 pub mod KeyOrders
 pub mod DefinitionNumbers
+pub mod ListedNames

@@ -6,6 +6,7 @@ ghost use Rattle.rn_assemble.specs.inside.Checked.{AreExpanded, IsGrammarOf, IsL
 ghost use Rattle.rn_assemble.specs.Components as specs;
 ghost use Rattle.rn_assemble.specs.inside.Contained.{AreFlat};
 ghost use Rattle.rn_assemble.specs.GrammarView.{grammar_view};
+ghost use Rattle.rn_assemble.specs.ListedView.{listed_grammar_view};
 ghost use Rattle.rn_assemble.specs.inside.CombinedView.{combined_view};
 ghost use Rattle.rn_assemble.specs.inside.Lacking.{IsLeastLack};
 ghost use Rattle.rn_assemble.specs.inside.Methods.{CanCombine, IsUncombined};
@@ -25,8 +26,9 @@ use crate::contents::contents_of;
 use crate::definitions::combined_grammar;
 use crate::expanding::components_of;
 use crate::grammar::Grammar;
+use crate::grammar::listed_grammar::ListedGrammar;
 use crate::inclusion::included_roots;
-use crate::joined_definitions::joined_grammar;
+use crate::joined_definitions::{joined_grammar, listed_grammar};
 use crate::keys::{Keys, START};
 use crate::named_modules::{NamedModule, read_modules, split_items};
 use crate::references::references_of;
@@ -42,8 +44,8 @@ use std::alloc::Global;
 /// The grammar of a set with short texts in the place of long URIs, and the URIs that they stand for.
 #[derive(Drop)]
 pub struct ShortGrammar {
-    /// The grammar of the set, with short texts in the place of its long URIs.
-    pub grammar: Grammar,
+    /// The grammar of the set, its definitions in a list, with short texts in the place of its long URIs.
+    pub grammar: ListedGrammar,
     /// The URI that each short text stands for. None where no URI of the set is long.
     pub uris: ShortUris,
 }
@@ -83,13 +85,12 @@ fn combine_set<'s>(alloc: Global, set: &'s ModuleSet) -> Result<Combined<'s>, Re
 /// one that [`assemble`](crate::assemble) answers. `Memory` stands for want of memory alone. The set is left as it is.
 pub fn assemble_short(alloc: Global, set: &ModuleSet) -> Result<ShortGrammar, Refusal>
     ensures { MatchResult result
-        (λ g. IsShortened set.now (short_texts g.uris) (grammar_view g.grammar))
+        (λ g. IsShortened set.now (short_texts g.uris) (listed_grammar_view g.grammar))
         (IsFirstRefusal set.now) }
 {
     let ShortCombined { combined, uris } = combine_short(alloc, set)?;
     let seed = seed_of(set);
-    let joined = joined_grammar(alloc, combined, &seed)?;
-    let grammar = Grammar { joined };
+    let grammar = listed_grammar(alloc, combined, &seed)?;
     Ok(ShortGrammar { grammar, uris })
 }
 

@@ -1,11 +1,22 @@
 // The grammar of a set: its start, its definitions, and which members of a joined list are the same body.
+ghost use Rattle.std.specs.Prelude.{◌≡◌, ◌<◌, IfOk, length, slice_index_or, string_bytes};
+ghost use Rattle.rn_pattern.specs.Tree.{Tree};
+ghost use Rattle.rn_pattern.specs.View.{pattern_view};
+ghost use Rattle.rn_text.specs.Texts.{Text};
+ghost use Rattle.rn_assemble.specs.DefinitionsView.{definitions_view};
 ghost use Rattle.rn_assemble.specs.JoinedView.{joined_view};
 ghost use Rattle.rn_assemble.specs.inside.OneProof.{IsWellFormed-prop};
 ghost use Rattle.rn_assemble.specs.WellFormed.{IsWellFormed, HasWritableTexts};
 
+pub mod definition_list;
+pub mod listed_grammar;
+
 use crate::joined_grammar::{Definitions, Joined};
 use crate::likely_references::LikelyReferences;
+use definition_list::DefinitionList;
+use listed_grammar::{Listed, ListedGrammar};
 use rn_pattern::Pattern;
+use std::alloc::{AllocError, Global};
 
 /// The combined definitions of a set, for which none of the refusals of a set stands. So every reference is defined, no
 /// loop is reached, excepts and name classes keep their restrictions (RELAX NG 2001, 4.16, 4.18, 4.19
@@ -17,29 +28,15 @@ pub struct Grammar {
     pub ghost writable: { ∥ HasWritableTexts (joined_view joined) ∥₁ },
 }
 
-/// What a grammar is made of: its start, its definitions, and which members of their lists are the same body.
-#[derive(Drop)]
-pub struct GrammarParts {
-    /// The start pattern.
-    pub start: Pattern,
-    /// The definitions, in the order of each name's first component.
-    pub definitions: Definitions,
-    /// Of each member of the start, the index of the first member that is the same body (`Grammar::start_firsts`).
-    pub start_firsts: Vec<u32>,
-    /// Of each definition by its number, and each of its members, the index of the first member that is the same body
-    /// (`Grammar::firsts`). Definitions behind the last list have none.
-    pub firsts: Vec<Vec<u32>>,
-    /// Where to look first for what is referred to (`Grammar::likely_references`).
-    pub likely: LikelyReferences,
-}
-
 impl Grammar {
     ghost use Rattle.std.specs.Prelude.{◌≡◌, ◌<◌, length, slice_index_or};
     ghost use Rattle.rn_text.specs.Texts.{Text};
     ghost use Rattle.rn_pattern.specs.Tree.{Tree};
     ghost use Rattle.rn_pattern.specs.View.{pattern_view};
-    ghost use Rattle.rn_assemble.specs.Firsts.{AreFirsts, HaveFirsts, joined_members};
+    ghost use Rattle.std.specs.Prelude.{IfOk};
+    ghost use Rattle.rn_assemble.specs.Firsts.{AreFirsts, joined_members};
     ghost use Rattle.rn_assemble.specs.GrammarView.{definitions_view, grammar_view};
+    ghost use Rattle.rn_assemble.specs.ListedView.{listed_grammar_view, listed_view};
     ghost use Rattle.rn_assemble.specs.SettlingOrder.{IsSettlingOrder};
 
     /// The start pattern.
@@ -93,14 +90,33 @@ impl Grammar {
         &self.joined.order.likely
     }
 
-    /// The parts of the grammar, which is taken apart.
-    pub fn into_parts(self) -> GrammarParts
-        ensures start { pattern_view result.start ≡ (grammar_view self).start }
-        ensures definitions { definitions_view result.definitions.entries
-            ≡ (grammar_view self).definitions }
-        ensures start_firsts { AreFirsts result.start_firsts.items
-            (joined_members (grammar_view self).start) }
-        ensures firsts { HaveFirsts result.firsts.items (grammar_view self).definitions }
+    /// A copy of the definitions, in a list. The only error is want of memory.
+    pub fn list_definitions(&self, alloc: Global) -> Result<DefinitionList, AllocError>
+        ensures { IfOk result (λ list. definitions_view list.entries.items
+            ≡ (grammar_view self.now).definitions) }
+    {
+        copy_of(alloc, &self.joined.defs)
+    }
+
+    /// The grammar, with its definitions in this list.
+    pub fn listed<'g>(&'g self, definitions: &'g DefinitionList) -> Listed<'g>
+        requires { definitions_view definitions.now.entries.items
+            ≡ (grammar_view self.now).definitions }
+        ensures { listed_view result ≡ grammar_view self.now }
+    {
+        Listed {
+            start: &self.joined.start,
+            definitions,
+            start_firsts: self.joined.start_firsts.as_slice(),
+            firsts: self.joined.firsts.as_slice(),
+            order: &self.joined.order,
+            seed: self.joined.defs.hasher(),
+        }
+    }
+
+    /// The grammar with its definitions in a list. The only error is want of memory.
+    pub fn into_listed(self, alloc: Global) -> Result<ListedGrammar, AllocError>
+        ensures { IfOk result (λ g. listed_grammar_view g ≡ grammar_view self) }
     {
         let Joined {
             start,
@@ -109,12 +125,58 @@ impl Grammar {
             firsts,
             order,
         } = self.joined;
-        GrammarParts {
+        let seed = *defs.hasher();
+        let definitions = list_of(alloc, defs)?;
+        Ok(ListedGrammar {
             start,
-            definitions: defs,
+            definitions,
             start_firsts,
             firsts,
-            likely: order.likely,
-        }
+            order,
+            seed,
+        })
     }
+}
+
+/// A copy of the definitions of the map, in their order.
+fn copy_of(alloc: Global, definitions: &Definitions) -> Result<DefinitionList, AllocError>
+    ensures { IfOk result (λ list. definitions_view list.entries.items
+        ≡ definitions_view definitions.now.entries) }
+{
+    let mut entries = Vec::with_capacity(alloc, definitions.len())?;
+    for number in 0..definitions.len() {
+        let name = name_of(definitions, number).clone()?;
+        let body = body_of(definitions, number).try_clone(alloc)?;
+        entries.push((name, body))?;
+    }
+    Ok(DefinitionList { entries })
+}
+
+/// The name of the definition with a number.
+fn name_of(definitions: &Definitions, number: usize) -> &String
+    requires { number < length definitions.now.entries }
+    ensures { (d : Text × Tree) → string_bytes result.now
+        ≡ (slice_index_or (definitions_view definitions.now.entries) number d).0 }
+{
+    let (name, _) = definitions.get_index(number).unwrap();
+    name
+}
+
+/// The body of the definition with a number.
+fn body_of(definitions: &Definitions, number: usize) -> &Pattern
+    requires { number < length definitions.now.entries }
+    ensures { (d : Text × Tree) → pattern_view result.now
+        ≡ (slice_index_or (definitions_view definitions.now.entries) number d).1 }
+{
+    let (_, body) = definitions.get_index(number).unwrap();
+    body
+}
+
+/// The definitions of the map, in their order.
+fn list_of(alloc: Global, definitions: Definitions) -> Result<DefinitionList, AllocError>
+    ensures { IfOk result (λ list. list.entries.items ≡ definitions.entries) }
+{
+    let mut entries = Vec::with_capacity(alloc, definitions.len())?;
+    entries.extend(definitions.into_iter())?;
+    Ok(DefinitionList { entries })
 }

@@ -32,6 +32,8 @@ pub(crate) struct Keys<'s> {
     /// For each component by its place among those of all modules, the number of its key. No answer rests on them, so no
     /// clause speaks of them: a wrong one costs time.
     numbers: Vec<usize>,
+    /// The heads of the names.
+    heads: Heads,
     ghost in_order: { IsStrictlySortedBy text_cmp (defined_names names.items) } by { IsStrictlySortedBy-prop _ _ },
 }
 
@@ -49,7 +51,12 @@ impl<'s> Keys<'s> {
         }
         let numbers = number_names(alloc, &mut names, components)?;
         names.shrink_to_fit();
-        Ok(Keys { names, numbers })
+        let heads = Heads::of(alloc, names.as_slice())?;
+        Ok(Keys {
+            names,
+            numbers,
+            heads,
+        })
     }
 
     /// How many keys there are.
@@ -89,7 +96,7 @@ impl<'s> Keys<'s> {
     }
 
     /// The key that is behind the one found last, if that was right before, or else the one that goes on in the same
-    /// step; none where neither has the name.
+    /// step, or else the first one whose name has the same head; none where none of them has the name.
     fn guess(&self, name: &str, behind: usize, next: &NextKey) -> Option<usize>
         ensures { IfSome result (IsNameNumber (names_of self.now) name.now) }
     {
@@ -99,6 +106,10 @@ impl<'s> Keys<'s> {
         let in_step = next.in_step();
         if self.is_named(in_step, name) {
             return Some(in_step);
+        }
+        let by_head = self.heads.first_at(name).saturating_add(1);
+        if self.is_named(by_head, name) {
+            return Some(by_head);
         }
         None
     }
@@ -161,6 +172,52 @@ impl<'s> Keys<'s> {
         }
         Ok(Key::Define(String::from_str(alloc, self.name(number))?))
     }
+}
+
+/// The heads of names: of each, the bytes behind those that all names begin with, eight of them, as a number. Heads are in
+/// the order of the names, and are compared without a look at the text. No answer rests on them.
+#[derive(Drop)]
+struct Heads {
+    /// How many bytes all names begin with.
+    common: usize,
+    heads: Vec<u64>,
+}
+
+impl Heads {
+    /// The heads of names in the order of their bytes.
+    fn of(alloc: Global, names: &[DefinedName<'_>]) -> Result<Heads, AllocError> {
+        let common = match (names.first(), names.last()) {
+            (Some(first), Some(last)) => common_bytes(first.name, last.name),
+            _ => 0,
+        };
+        let mut heads = Vec::with_capacity(alloc, names.len())?;
+        for one in names {
+            heads.push(head(one.name, common))?;
+        }
+        Ok(Heads { common, heads })
+    }
+
+    /// The place of the first name whose head is not before that of this name.
+    fn first_at(&self, name: &str) -> usize {
+        let wanted = head(name, self.common);
+        self.heads.partition_point(|head| *head < wanted)
+    }
+}
+
+/// How many bytes both names begin with.
+fn common_bytes(a: &str, b: &str) -> usize {
+    let pairs = a.as_bytes().iter().zip(b.as_bytes().iter());
+    pairs.take_while(|(x, y)| x == y).count()
+}
+
+/// Eight bytes of the name behind the first ones, as a number; zeros stand for those that there are not.
+fn head(name: &str, common: usize) -> u64 {
+    let mut bytes = [0; 8];
+    let behind = name.as_bytes().get(common..).unwrap_or(&[]);
+    for (to, from) in bytes.iter_mut().zip(behind.iter()) {
+        *to = *from;
+    }
+    u64::from_be_bytes(bytes)
 }
 
 /// How many references of a key have a step of their own.

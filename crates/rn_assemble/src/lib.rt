@@ -37,7 +37,9 @@ mod shortening;
 mod trees;
 
 pub use assembly::{ShortGrammar, assemble, assemble_short};
-pub use grammar::{Grammar, GrammarParts};
+pub use grammar::Grammar;
+pub use grammar::definition_list::DefinitionList;
+pub use grammar::listed_grammar::{Listed, ListedGrammar, ListedParts};
 pub use instances::INSTANCE_LIMIT;
 pub use joined_grammar::Definitions;
 pub use likely_references::LikelyReferences;

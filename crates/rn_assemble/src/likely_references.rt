@@ -14,6 +14,8 @@ pub struct LikelyReferences {
     ends: Vec<u32>,
     /// The numbers that the start refers to.
     start: Vec<u32>,
+    /// The numbers of all definitions, in the order of their names.
+    by_name: Vec<u32>,
 }
 
 impl LikelyReferences {
@@ -31,6 +33,7 @@ impl LikelyReferences {
             numbers: Vec::new(alloc),
             ends: Vec::with_capacity(alloc, definitions.len())?,
             start,
+            by_name: numbers_by_name(alloc, definitions, numbers)?,
         };
         for key in definitions {
             add_numbers(references, *key, numbers, &mut likely.numbers)?;
@@ -55,10 +58,32 @@ impl LikelyReferences {
         self.numbers.get(begin..end).unwrap_or(&[])
     }
 
+    /// The numbers of the definitions, likely in the order of their names.
+    pub fn by_name(&self) -> &[u32] {
+        &self.by_name
+    }
+
     /// Where the numbers of the definition with a number end; 0 for a number that no definition has.
     fn end_of(&self, number: usize) -> usize {
         self.ends.get(number).copied().unwrap_or(0) as usize
     }
+}
+
+/// The numbers of the definitions in the order of their keys, which is that of their names. The number of each key is
+/// given, and the key of each definition.
+fn numbers_by_name(
+    alloc: Global,
+    definitions: &[usize],
+    numbers: &[usize],
+) -> Result<Vec<u32>, AllocError> {
+    let mut by_name = Vec::with_capacity(alloc, definitions.len())?;
+    for key in 0..numbers.len() {
+        let number = numbers[key];
+        if definitions.get(number).copied() == Some(key) {
+            by_name.push(short(number))?;
+        }
+    }
+    Ok(by_name)
 }
 
 /// The number in 32 bits, or the largest one that they hold.

@@ -10,7 +10,6 @@ pub mod ReferenceGraph
 pub mod ReferredIn
 pub mod DefinitionNumbers
 pub mod Marks
-pub mod NumberedNames
 pub mod StoreIds
 pub mod PrunedForms
 pub mod Repeats

@@ -1,7 +1,7 @@
 // Canonical forms of bodies, each made by itself, so that no store grows with the grammar.
 ghost use Rattle.std.specs.Prelude.{◌≡◌, IfOk, bytes_eq, map};
 ghost use Rattle.std.specs.List.{IsDistinct};
-ghost use Rattle.rn_assemble.specs.GrammarView.{definitions_view, grammar_view};
+ghost use Rattle.rn_assemble.specs.ListedView.{definitions_view, listed_view};
 ghost use Rattle.rn_pattern.specs.Tree.{Tree};
 ghost use Rattle.rn_text.specs.Texts.{Text};
 ghost use Rattle.rn_pattern.specs.View.{pattern_view};
@@ -10,11 +10,10 @@ ghost use Rattle.rn_simplify.specs.inside.FormKinds.{settled_form};
 ghost use Rattle.rn_simplify.specs.inside.Repeats.{AreFirstsOf};
 
 use crate::definition_numbers::Likely;
-use crate::definitions::{body_of, name_of};
 use crate::normalising::stored_body_form;
 use crate::settled_definitions::SettledDefinitions;
 use crate::tree_forms::{form_of, form_or_copy};
-use rn_assemble::Grammar;
+use rn_assemble::Listed;
 use rn_pattern::{Interned, Pattern};
 use std::alloc::{AllocError, Global};
 
@@ -50,7 +49,7 @@ pub(crate) fn changed_form(
     if firsts.is_empty() {
         return form_of(alloc, settled, likely, body);
     }
-    let mut store = Interned::with_seed(alloc, *settled.definitions.hasher());
+    let mut store = Interned::with_seed(alloc, *settled.seed);
     let form = stored_body_form(alloc, &mut store, settled, body, firsts)?;
     Ok(Some(form))
 }
@@ -59,21 +58,21 @@ pub(crate) fn changed_form(
 pub(crate) fn definition_forms(
     alloc: Global,
     settled: &SettledDefinitions<'_>,
-    grammar: &Grammar,
+    grammar: &Listed<'_>,
 ) -> Result<Vec<(String, Pattern)>, AllocError>
-    requires { definitions_view settled.now.definitions.now.entries
-        ≡ (grammar_view grammar.now).definitions }
+    requires { definitions_view settled.now.definitions.now.entries.items
+        ≡ (listed_view grammar.now).definitions }
     ensures made { IfOk result (λ v. definitions_view v.items
         ≡ map (λ (d : Text × Tree). (d.0, settled_form settled.now d.1))
-        (definitions_view settled.now.definitions.now.entries)) }
+        (definitions_view settled.now.definitions.now.entries.items)) }
     ensures distinct { IfOk result
         (λ v. IsDistinct bytes_eq (map (λ d. d.0) (definitions_view v.items))) }
 {
     let mut forms = Vec::with_capacity(alloc, settled.definitions.len())?;
     for number in 0..settled.definitions.len() {
-        let name = name_of(settled.definitions, number).clone()?;
-        let body = body_of(settled.definitions, number);
-        let mut likely = Likely::of(settled.likely.of_definition(number));
+        let name = settled.definitions.name_of(number).clone()?;
+        let body = settled.definitions.body_of(number);
+        let mut likely = Likely::of_definition(settled.likely, number);
         let form = body_form(alloc, settled, &mut likely, body, grammar.firsts(number))?;
         forms.push((name, form))?;
     }

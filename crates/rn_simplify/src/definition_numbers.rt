@@ -3,8 +3,7 @@ ghost use Rattle.std.specs.Prelude.{◌≡◌, ◌<◌, IfSome, IsTrue, Some, le
 ghost use Rattle.rn_assemble.specs.GrammarView.{definitions_view};
 ghost use Rattle.rn_simplify.specs.inside.DefinitionNumbers.{number_of};
 
-use crate::definitions::name_of;
-use rn_assemble::Definitions;
+use rn_assemble::{DefinitionList, LikelyReferences};
 
 /// The most numbers that are looked through one by one: of two names mostly the lengths or the last bytes differ, while
 /// a hash takes all bytes.
@@ -15,6 +14,8 @@ const FEW_NUMBERS: usize = 8;
 #[derive(Drop)]
 pub(crate) struct Likely<'r> {
     numbers: &'r [u32],
+    /// The numbers of all definitions, likely in the order of their names.
+    by_name: &'r [u32],
     /// The place of the number that is tried first.
     next: usize,
     /// The number behind the one that was found last. In a list that is in order, names follow one another as their
@@ -23,10 +24,26 @@ pub(crate) struct Likely<'r> {
 }
 
 impl<'r> Likely<'r> {
+    /// What the start is likely to refer to.
+    pub(crate) fn of_start(likely: &'r LikelyReferences) -> Likely<'r> {
+        Likely::of(likely, likely.of_start())
+    }
+
+    /// What the definition with a number is likely to refer to.
+    pub(crate) fn of_definition(likely: &'r LikelyReferences, number: usize) -> Likely<'r> {
+        Likely::of(likely, likely.of_definition(number))
+    }
+
+    /// The order of names alone.
+    pub(crate) fn of_none(likely: &'r LikelyReferences) -> Likely<'r> {
+        Likely::of(likely, &[])
+    }
+
     /// These numbers, of which the first one is tried first.
-    pub(crate) fn of(numbers: &'r [u32]) -> Likely<'r> {
+    fn of(likely: &'r LikelyReferences, numbers: &'r [u32]) -> Likely<'r> {
         Likely {
             numbers,
+            by_name: likely.by_name(),
             next: 0,
             behind: 0,
         }
@@ -42,50 +59,54 @@ impl<'r> Likely<'r> {
 
 /// The number of the definition of a name. The likely numbers are tried first.
 pub(crate) fn find_number(
-    definitions: &Definitions,
+    definitions: &DefinitionList,
     likely: &mut Likely<'_>,
     name: &str,
 ) -> Option<usize>
-    ensures number { result ≡ number_of (definitions_view definitions.now.entries) name.now }
-    ensures within { IfSome result (λ k. k < length definitions.now.entries) }
+    ensures number { result ≡ number_of (definitions_view definitions.now.entries.items) name.now }
+    ensures within { IfSome result (λ k. k < length definitions.now.entries.items) }
 {
     let found = number_by_name(definitions, likely, name);
     likely.note(found);
     found
 }
 
-/// The number of the definition of a name, by the likely numbers or by the map.
+/// The number of the definition of a name: a likely one, or else one that is found by going through the definitions, which
+/// comes to pass only where the name has none.
 fn number_by_name(
-    definitions: &Definitions,
+    definitions: &DefinitionList,
     likely: &mut Likely<'_>,
     name: &str,
 ) -> Option<usize>
-    ensures number { result ≡ number_of (definitions_view definitions.now.entries) name.now }
-    ensures within { IfSome result (λ k. k < length definitions.now.entries) }
+    ensures number { result ≡ number_of (definitions_view definitions.now.entries.items) name.now }
+    ensures within { IfSome result (λ k. k < length definitions.now.entries.items) }
 {
     match find_likely(definitions, likely, name) {
         Some(number) => Some(number),
-        None => definitions.get_index_of(name),
+        None => definitions.number_of(name),
     }
 }
 
-/// The likely number whose definition has the name, if it is the next one or they are few; else the number behind the
-/// one that was found last, if its definition has the name.
-fn find_likely(definitions: &Definitions, likely: &mut Likely<'_>, name: &str) -> Option<usize>
+/// The number whose definition has the name: the next likely one, or one that is likely elsewhere, or the one at the
+/// name's place in the likely order of names.
+fn find_likely(definitions: &DefinitionList, likely: &mut Likely<'_>, name: &str) -> Option<usize>
     ensures { IfSome result
-        (λ k. number_of (definitions_view definitions.now.entries) name.now ≡ Some k) }
+        (λ k. number_of (definitions_view definitions.now.entries.items) name.now ≡ Some k) }
 {
-    match find_next(definitions, likely, name) {
+    if let Some(number) = find_next(definitions, likely, name) {
+        return Some(number);
+    }
+    match find_elsewhere(definitions, likely, name) {
         Some(number) => Some(number),
-        None => find_elsewhere(definitions, likely, name),
+        None => find_in_order(definitions, likely.by_name, name),
     }
 }
 
 /// The one of few likely numbers whose definition has the name. Where they are many, the number behind the one that was
 /// found last, if its definition has the name.
-fn find_elsewhere(definitions: &Definitions, likely: &Likely<'_>, name: &str) -> Option<usize>
+fn find_elsewhere(definitions: &DefinitionList, likely: &Likely<'_>, name: &str) -> Option<usize>
     ensures { IfSome result
-        (λ k. number_of (definitions_view definitions.now.entries) name.now ≡ Some k) }
+        (λ k. number_of (definitions_view definitions.now.entries.items) name.now ≡ Some k) }
 {
     if likely.numbers.len() <= FEW_NUMBERS {
         return find_among(definitions, likely.numbers, name);
@@ -97,9 +118,9 @@ fn find_elsewhere(definitions: &Definitions, likely: &Likely<'_>, name: &str) ->
 }
 
 /// The next likely number, if its definition has the name. The one behind it is the next one then.
-fn find_next(definitions: &Definitions, likely: &mut Likely<'_>, name: &str) -> Option<usize>
+fn find_next(definitions: &DefinitionList, likely: &mut Likely<'_>, name: &str) -> Option<usize>
     ensures { IfSome result
-        (λ k. number_of (definitions_view definitions.now.entries) name.now ≡ Some k) }
+        (λ k. number_of (definitions_view definitions.now.entries.items) name.now ≡ Some k) }
 {
     let number = *likely.numbers.get(likely.next)? as usize;
     if !is_named(definitions, number, name) {
@@ -110,9 +131,9 @@ fn find_next(definitions: &Definitions, likely: &mut Likely<'_>, name: &str) -> 
 }
 
 /// The first of the numbers whose definition has the name.
-fn find_among(definitions: &Definitions, numbers: &[u32], name: &str) -> Option<usize>
+fn find_among(definitions: &DefinitionList, numbers: &[u32], name: &str) -> Option<usize>
     ensures { IfSome result
-        (λ k. number_of (definitions_view definitions.now.entries) name.now ≡ Some k) }
+        (λ k. number_of (definitions_view definitions.now.entries.items) name.now ≡ Some k) }
 {
     for number in numbers {
         let number = *number as usize;
@@ -123,13 +144,32 @@ fn find_among(definitions: &Definitions, numbers: &[u32], name: &str) -> Option<
     None
 }
 
+/// The number whose definition has the name, among numbers that are likely in the order of the names.
+fn find_in_order(definitions: &DefinitionList, by_name: &[u32], name: &str) -> Option<usize>
+    ensures { IfSome result
+        (λ k. number_of (definitions_view definitions.now.entries.items) name.now ≡ Some k) }
+{
+    let at = by_name.partition_point(|number| is_before(definitions, *number as usize, name));
+    let number = *by_name.get(at)? as usize;
+    if is_named(definitions, number, name) {
+        Some(number)
+    } else {
+        None
+    }
+}
+
+/// Whether there is a definition with the number, and its name comes before this one.
+fn is_before(definitions: &DefinitionList, number: usize, name: &str) -> bool {
+    number < definitions.len() && definitions.name_of(number).as_str() < name
+}
+
 /// Whether there is a definition with the number, and it has the name.
-fn is_named(definitions: &Definitions, number: usize, name: &str) -> bool
+fn is_named(definitions: &DefinitionList, number: usize, name: &str) -> bool
     ensures { IsTrue result
-        → number_of (definitions_view definitions.now.entries) name.now ≡ Some number }
+        → number_of (definitions_view definitions.now.entries.items) name.now ≡ Some number }
 {
     if number >= definitions.len() {
         return false;
     }
-    name_of(definitions, number).as_str() == name
+    definitions.name_of(number).as_str() == name
 }

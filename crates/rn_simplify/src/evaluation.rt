@@ -1,6 +1,6 @@
 // The kind of form of each definition of a grammar, by its body and by those that the body refers to outside elements.
 ghost use Rattle.std.specs.Prelude.{◌≡◌, ◌<◌, ℕ, IfOk, OnOk, length, slice_index_or, slice_set};
-ghost use Rattle.rn_assemble.specs.GrammarView.{definitions_view, grammar_view};
+ghost use Rattle.rn_assemble.specs.ListedView.{definitions_view, listed_view};
 ghost use Rattle.rn_pattern.specs.Graph.{AllBelow};
 ghost use Rattle.rn_pattern.specs.Tree.{Tree};
 ghost use Rattle.rn_text.specs.Texts.{Text};
@@ -12,23 +12,22 @@ ghost use Rattle.rn_simplify.specs.inside.FormKinds.{becomes, tree_kind, group_k
 ghost use Rattle.rn_simplify.specs.inside.Repeats.{AreFirstsOf};
 
 use crate::definition_numbers::Likely;
-use crate::definitions::body_of;
 use crate::form_kind::FormKind;
 use crate::repeated_members::without_repeats;
 use crate::settled_definitions::SettledDefinitions;
-use rn_assemble::Grammar;
+use rn_assemble::Listed;
 use rn_pattern::Pattern;
 use std::alloc::{AllocError, Global};
 use std::rc::Rc;
 
 /// What the references to the definitions of a grammar become.
-pub(crate) fn settle_all(
+pub(crate) fn settle_all<'g>(
     alloc: Global,
-    grammar: &Grammar,
-) -> Result<SettledDefinitions<'_>, AllocError>
-    ensures definitions { IfOk result (λ s. definitions_view s.definitions.now.entries
-        ≡ (grammar_view grammar.now).definitions) }
-    ensures exact { IfOk result (λ s. (rank : Text → ℕ) × IsSettling (grammar_view grammar.now)
+    grammar: &Listed<'g>,
+) -> Result<SettledDefinitions<'g>, AllocError>
+    ensures definitions { IfOk result (λ s. definitions_view s.definitions.now.entries.items
+        ≡ (listed_view grammar.now).definitions) }
+    ensures exact { IfOk result (λ s. (rank : Text → ℕ) × IsSettling (listed_view grammar.now)
         (becomes s) rank) }
 {
     settle(alloc, grammar, grammar.settling_order())
@@ -38,15 +37,15 @@ pub(crate) fn settle_all(
 /// it refers to outside elements.
 fn settle<'g>(
     alloc: Global,
-    grammar: &'g Grammar,
+    grammar: &Listed<'g>,
     order: &[usize],
 ) -> Result<SettledDefinitions<'g>, AllocError>
-    requires { AllBelow (length (grammar_view grammar.now).definitions) order.now }
-    ensures definitions { IfOk result (λ s. definitions_view s.definitions.now.entries
-        ≡ (grammar_view grammar.now).definitions) }
-    ensures settled { IfOk result (λ s. IsInOrder (grammar_view grammar.now).definitions order.now
-        → AreSettled (grammar_view grammar.now).definitions order.now
-        (becomes_by (grammar_view grammar.now).definitions s.kinds.items)) }
+    requires { AllBelow (length (listed_view grammar.now).definitions) order.now }
+    ensures definitions { IfOk result (λ s. definitions_view s.definitions.now.entries.items
+        ≡ (listed_view grammar.now).definitions) }
+    ensures settled { IfOk result (λ s. IsInOrder (listed_view grammar.now).definitions order.now
+        → AreSettled (listed_view grammar.now).definitions order.now
+        (becomes_by (listed_view grammar.now).definitions s.kinds.items)) }
 {
     let definitions = grammar.defs();
     let kinds = vec![in alloc; FormKind::Other; definitions.len()]?;
@@ -54,6 +53,7 @@ fn settle<'g>(
         definitions,
         kinds,
         likely: grammar.likely_references(),
+        seed: grammar.seed(),
     };
     for number in order {
         settle_definition(alloc, grammar, *number, &mut settled)?;
@@ -64,21 +64,22 @@ fn settle<'g>(
 /// Settles the definition of a number by its body.
 fn settle_definition(
     alloc: Global,
-    grammar: &Grammar,
+    grammar: &Listed<'_>,
     number: usize,
     settled: &mut SettledDefinitions<'_>,
 ) -> Result<(), AllocError>
-    requires within { number < length settled.old.definitions.now.entries }
-    requires of { definitions_view settled.old.definitions.now.entries
-        ≡ (grammar_view grammar.now).definitions }
-    ensures definitions { settled.new.definitions.now.entries
-        ≡ settled.old.definitions.now.entries }
+    requires within { number < length settled.old.definitions.now.entries.items }
+    requires of { definitions_view settled.old.definitions.now.entries.items
+        ≡ (listed_view grammar.now).definitions }
+    ensures definitions { settled.new.definitions.now.entries.items
+        ≡ settled.old.definitions.now.entries.items }
     ensures settled { OnOk result ((d : Text × Tree) → settled.new.kinds.items
         ≡ slice_set settled.old.kinds.items number (kind_of (settled_form settled.old
-        (slice_index_or (definitions_view settled.old.definitions.now.entries) number d).1))) }
+        (slice_index_or (definitions_view settled.old.definitions.now.entries.items)
+        number d).1))) }
 {
-    let body = body_of(settled.definitions, number);
-    let mut likely = Likely::of(settled.likely.of_definition(number));
+    let body = settled.definitions.body_of(number);
+    let mut likely = Likely::of_definition(settled.likely, number);
     let kind = evaluate_body(alloc, settled, &mut likely, body, grammar.firsts(number))?;
     settled.kinds[number] = kind;
     Ok(())

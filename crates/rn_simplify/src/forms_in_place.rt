@@ -2,7 +2,7 @@
 ghost use Rattle.std.specs.Prelude.{◌≡◌, ◌<◌, ◌++◌, ◌∷◌, [], ℕ, IfOk, OnOk, length, map, slice_index_or};
 ghost use Rattle.indexmap.specs.IndexMap.{set_value_at};
 ghost use Rattle.rn_assemble.specs.Firsts.{AreFirsts, HaveFirsts, joined_members};
-ghost use Rattle.rn_assemble.specs.GrammarView.{definitions_view, grammar_view};
+ghost use Rattle.rn_assemble.specs.ListedView.{definitions_view, listed_view};
 ghost use Rattle.rn_pattern.specs.Canonical.{canonical};
 ghost use Rattle.rn_pattern.specs.Graph.{row, rows_of};
 ghost use Rattle.rn_pattern.specs.Tree.{Tree};
@@ -15,31 +15,30 @@ ghost use Rattle.rn_simplify.specs.inside.FormKinds.{becomes_by, settled_definit
 
 use crate::body_forms::{body_form, changed_form};
 use crate::definition_numbers::Likely;
-use crate::definitions::body_of;
 use crate::evaluation::settle_all;
 use crate::form_kind::FormKind;
 use crate::reference_numbers::referred_numbers;
 use crate::settled_definitions::SettledDefinitions;
-use rn_assemble::{Definitions, Grammar, LikelyReferences};
-use rn_pattern::{Pattern, Rows};
+use rn_assemble::{DefinitionList, LikelyReferences, Listed};
+use rn_pattern::{Pattern, Rows, Seed};
 use std::alloc::{AllocError, Global};
 
 /// The form of the start, and the kind of the form of each definition, by its number.
 pub(crate) fn settled_start(
     alloc: Global,
-    grammar: &Grammar,
+    grammar: &Listed<'_>,
 ) -> Result<(Pattern, Vec<FormKind>), AllocError>
     ensures sized { IfOk result (λ r. length r.1.items
-        ≡ length (grammar_view grammar.now).definitions) }
-    ensures exact { IfOk result (λ r. (rank : Text → ℕ) × IsSettling (grammar_view grammar.now)
-        (becomes_by (grammar_view grammar.now).definitions r.1.items) rank) }
+        ≡ length (listed_view grammar.now).definitions) }
+    ensures exact { IfOk result (λ r. (rank : Text → ℕ) × IsSettling (listed_view grammar.now)
+        (becomes_by (listed_view grammar.now).definitions r.1.items) rank) }
     ensures start { IfOk result (λ r. pattern_view r.0
-        ≡ canonical (becomes_by (grammar_view grammar.now).definitions r.1.items)
-        (grammar_view grammar.now).start) }
+        ≡ canonical (becomes_by (listed_view grammar.now).definitions r.1.items)
+        (listed_view grammar.now).start) }
 {
     let settled = settle_all(alloc, grammar)?;
     let firsts = grammar.start_firsts();
-    let mut likely = Likely::of(settled.likely.of_start());
+    let mut likely = Likely::of_start(settled.likely);
     let form = body_form(alloc, &settled, &mut likely, grammar.start(), firsts)?;
     Ok((form, settled.kinds))
 }
@@ -48,24 +47,33 @@ pub(crate) fn settled_start(
 /// definitions that each form refers to, which are found as soon as it is made.
 pub(crate) fn form_definitions(
     alloc: Global,
-    definitions: &mut Definitions,
+    definitions: &mut DefinitionList,
     likely: &LikelyReferences,
+    seed: &Seed,
     mut kinds: Vec<FormKind>,
     firsts: &[Vec<u32>],
 ) -> Result<Rows, AllocError>
-    requires sized { length kinds.items ≡ length definitions.old.entries }
-    requires firsts { HaveFirsts firsts.now (definitions_view definitions.old.entries) }
-    ensures formed { IfOk result (λ _. definitions_view definitions.new.entries
-        ≡ settled_definitions (definitions_view definitions.old.entries) kinds.items) }
+    requires sized { length kinds.items ≡ length definitions.old.entries.items }
+    requires firsts { HaveFirsts firsts.now (definitions_view definitions.old.entries.items) }
+    ensures formed { IfOk result (λ _. definitions_view definitions.new.entries.items
+        ≡ settled_definitions (definitions_view definitions.old.entries.items) kinds.items) }
     ensures rows { IfOk result (λ rows. rows_of rows
-        ≡ rows_by (definitions_view definitions.new.entries)
-        (definitions_view definitions.new.entries)) }
+        ≡ rows_by (definitions_view definitions.new.entries.items)
+        (definitions_view definitions.new.entries.items)) }
 {
     let mut rows = Rows::with_capacity(alloc, definitions.len())?;
     let mut row = Vec::new(alloc);
     for number in 0..definitions.len() {
         let first_members = firsts_at(firsts, number);
-        let (made, kept) = form_at(alloc, definitions, likely, kinds, number, first_members)?;
+        let (made, kept) = form_at(
+            alloc,
+            definitions,
+            likely,
+            seed,
+            kinds,
+            number,
+            first_members,
+        )?;
         kinds = kept;
         put_form(definitions, number, made);
         push_references(definitions, likely, number, &mut row, &mut rows)?;
@@ -74,32 +82,32 @@ pub(crate) fn form_definitions(
 }
 
 /// Puts the form of the definition with a number in the place of its body, if it is another.
-fn put_form(definitions: &mut Definitions, number: usize, made: Option<Pattern>)
-    requires { number < length definitions.old.entries }
-    ensures { (d : Text × Tree) → definitions_view definitions.new.entries
-        ≡ set_value_at (definitions_view definitions.old.entries) number (form_or made
-        (slice_index_or (definitions_view definitions.old.entries) number d).1) }
+fn put_form(definitions: &mut DefinitionList, number: usize, made: Option<Pattern>)
+    requires { number < length definitions.old.entries.items }
+    ensures { (d : Text × Tree) → definitions_view definitions.new.entries.items
+        ≡ set_value_at (definitions_view definitions.old.entries.items) number (form_or made
+        (slice_index_or (definitions_view definitions.old.entries.items) number d).1) }
 {
     if let Some(form) = made {
-        definitions[number] = form;
+        definitions.put(number, form);
     }
 }
 
 /// Adds the row of the definitions that the one with a number refers to. What `row` held is lost.
 fn push_references(
-    definitions: &Definitions,
+    definitions: &DefinitionList,
     likely: &LikelyReferences,
     number: usize,
     row: &mut Vec<usize>,
     rows: &mut Rows,
 ) -> Result<(), AllocError>
-    requires { number < length definitions.now.entries }
+    requires { number < length definitions.now.entries.items }
     ensures { OnOk result ((d : Text × Tree) → rows_of rows.new ≡ rows_of rows.old
-        ++ reference_numbers (definitions_view definitions.now.entries)
-        (slice_index_or (definitions_view definitions.now.entries) number d).1 ∷ []) }
+        ++ reference_numbers (definitions_view definitions.now.entries.items)
+        (slice_index_or (definitions_view definitions.now.entries.items) number d).1 ∷ []) }
 {
-    let mut numbers = Likely::of(likely.of_definition(number));
-    let body = body_of(definitions, number);
+    let mut numbers = Likely::of_definition(likely, number);
+    let body = definitions.body_of(number);
     referred_numbers(row, definitions, &mut numbers, body)?;
     rows.push_row(row)
 }
@@ -117,29 +125,31 @@ fn firsts_at(firsts: &[Vec<u32>], number: usize) -> &[u32]
 /// The form of the definition with a number, or `None` where that is its body. The kinds are handed back with it.
 fn form_at(
     alloc: Global,
-    definitions: &Definitions,
+    definitions: &DefinitionList,
     likely: &LikelyReferences,
+    seed: &Seed,
     kinds: Vec<FormKind>,
     number: usize,
     firsts: &[u32],
 ) -> Result<(Option<Pattern>, Vec<FormKind>), AllocError>
-    requires within { number < length definitions.now.entries }
-    requires sized { length kinds.items ≡ length definitions.now.entries }
+    requires within { number < length definitions.now.entries.items }
+    requires sized { length kinds.items ≡ length definitions.now.entries.items }
     requires firsts { (d : Text × Tree) → AreFirsts firsts.now (joined_members
-        (slice_index_or (definitions_view definitions.now.entries) number d).1) }
+        (slice_index_or (definitions_view definitions.now.entries.items) number d).1) }
     ensures made { IfOk result (λ r. (d : Text × Tree) → form_or r.0
-        (slice_index_or (definitions_view definitions.now.entries) number d).1
-        ≡ canonical (becomes_by (definitions_view definitions.now.entries) kinds.items)
-        (slice_index_or (definitions_view definitions.now.entries) number d).1) }
+        (slice_index_or (definitions_view definitions.now.entries.items) number d).1
+        ≡ canonical (becomes_by (definitions_view definitions.now.entries.items) kinds.items)
+        (slice_index_or (definitions_view definitions.now.entries.items) number d).1) }
     ensures kept { IfOk result (λ r. r.1.items ≡ kinds.items) }
 {
     let settled = SettledDefinitions {
         definitions,
         kinds,
         likely,
+        seed,
     };
-    let mut numbers = Likely::of(likely.of_definition(number));
-    let body = body_of(definitions, number);
+    let mut numbers = Likely::of_definition(likely, number);
+    let body = definitions.body_of(number);
     let made = changed_form(alloc, &settled, &mut numbers, body, firsts)?;
     Ok((made, settled.kinds))
 }

@@ -9,7 +9,6 @@ mod body_forms;
 mod class_text;
 mod declared_prefixes;
 mod definition_numbers;
-mod definitions;
 mod evaluation;
 mod form_kind;
 mod forms_in_place;

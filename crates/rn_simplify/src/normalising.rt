@@ -2,6 +2,7 @@
 ghost use Rattle.std.specs.Prelude.{◌≡◌, IfOk, bytes_eq, map};
 ghost use Rattle.std.specs.List.{IsDistinct};
 ghost use Rattle.rn_assemble.specs.GrammarView.{definitions_view, grammar_view};
+ghost use Rattle.rn_assemble.specs.ListedView.{listed_grammar_view, listed_view};
 ghost use Rattle.rn_pattern.specs.Canonical as form;
 ghost use Rattle.rn_pattern.specs.Matching.{ValidAlike};
 ghost use Rattle.rn_pattern.specs.Reached.{IsCanonicalOf};
@@ -16,15 +17,14 @@ ghost use Rattle.rn_simplify.specs.inside.Repeats.{AreFirstsOf};
 
 use crate::body_forms::{body_form, definition_forms};
 use crate::definition_numbers::Likely;
-use crate::definitions::{body_of, name_of};
 use crate::evaluation::settle_all;
 use crate::forms_in_place::{form_definitions, settled_start};
 use crate::joined_bodies::canonical_body;
 use crate::normal::Normal;
-use crate::reachable::{prune_forms, prune_map};
+use crate::reachable::{prune_forms, prune_list};
 use crate::rebuilding::rebuild;
 use crate::settled_definitions::SettledDefinitions;
-use rn_assemble::{Grammar, GrammarParts};
+use rn_assemble::{Grammar, Listed, ListedGrammar, ListedParts};
 use rn_pattern::{Pattern, Patterns};
 use std::alloc::{AllocError, Global};
 
@@ -37,7 +37,8 @@ pub fn normalise(alloc: Global, grammar: &Grammar) -> Result<Normal, AllocError>
     ensures documents { IfOk result
         (λ n. ValidAlike (grammar_view grammar.now) (normal_view n)) }
 {
-    let parts = canonical_parts(alloc, grammar)?;
+    let definitions = grammar.list_definitions(alloc)?;
+    let parts = canonical_parts(alloc, &grammar.listed(&definitions))?;
     Ok(normal_of(grammar, parts))
 }
 
@@ -54,7 +55,8 @@ pub fn normalise_in<P: Patterns>(
         (λ n. ValidAlike (grammar_view grammar.now) (normal_view n)) }
     ensures kept { KeepsIds P.knows P.tree_of store.old store.new }
 {
-    let parts = stored_parts(alloc, grammar, store)?;
+    let definitions = grammar.list_definitions(alloc)?;
+    let parts = stored_parts(alloc, &grammar.listed(&definitions), store)?;
     Ok(normal_of(grammar, parts))
 }
 
@@ -62,11 +64,11 @@ pub fn normalise_in<P: Patterns>(
 /// where one body stands in its list twice, and the body is given up once its form is made, so the grammar and its
 /// forms never stand side by side. It is valid for exactly the same documents, for every table of datatypes (RELAX NG
 /// 2001, 4.18 to 4.21 and 6). The only error is want of memory.
-pub fn into_normal(alloc: Global, grammar: Grammar) -> Result<Normal, AllocError>
+pub fn into_normal(alloc: Global, grammar: ListedGrammar) -> Result<Normal, AllocError>
     ensures canonical { IfOk result
-        (λ n. IsCanonicalOf (grammar_view grammar) (normal_view n)) }
+        (λ n. IsCanonicalOf (listed_grammar_view grammar) (normal_view n)) }
     ensures documents { IfOk result
-        (λ n. ValidAlike (grammar_view grammar) (normal_view n)) }
+        (λ n. ValidAlike (listed_grammar_view grammar) (normal_view n)) }
 {
     let (start, defs) = parts_in_place(alloc, grammar)?;
     Ok(Normal { start, defs })
@@ -88,10 +90,10 @@ fn normal_of(grammar: &Grammar, parts: NormalParts) -> Normal
 /// The canonical start and the canonical definitions that it reaches.
 fn stored_parts<P: Patterns>(
     alloc: Global,
-    grammar: &Grammar,
+    grammar: &Listed<'_>,
     store: &mut P,
 ) -> Result<NormalParts, AllocError>
-    ensures canonical { IfOk result (λ parts. IsCanonicalOf (grammar_view grammar.now)
+    ensures canonical { IfOk result (λ parts. IsCanonicalOf (listed_view grammar.now)
         (parts_view parts.0 parts.1.items)) }
     ensures kept { KeepsIds P.knows P.tree_of store.old store.new }
 {
@@ -109,15 +111,15 @@ fn stored_parts<P: Patterns>(
 }
 
 /// The canonical start and the canonical definitions that it reaches, each made by itself.
-fn canonical_parts(alloc: Global, grammar: &Grammar) -> Result<NormalParts, AllocError>
-    ensures { IfOk result (λ parts. IsCanonicalOf (grammar_view grammar.now)
+fn canonical_parts(alloc: Global, grammar: &Listed<'_>) -> Result<NormalParts, AllocError>
+    ensures { IfOk result (λ parts. IsCanonicalOf (listed_view grammar.now)
         (parts_view parts.0 parts.1.items)) }
 {
     let settled = settle_all(alloc, grammar)?;
     let start = body_form(
         alloc,
         &settled,
-        &mut Likely::of(settled.likely.of_start()),
+        &mut Likely::of_start(settled.likely),
         grammar.start(),
         grammar.start_firsts(),
     )?;
@@ -127,19 +129,20 @@ fn canonical_parts(alloc: Global, grammar: &Grammar) -> Result<NormalParts, Allo
 }
 
 /// The canonical start and the canonical definitions that it reaches, each made in the place of its body.
-fn parts_in_place(alloc: Global, grammar: Grammar) -> Result<NormalParts, AllocError>
-    ensures { IfOk result (λ parts. IsCanonicalOf (grammar_view grammar)
+fn parts_in_place(alloc: Global, grammar: ListedGrammar) -> Result<NormalParts, AllocError>
+    ensures { IfOk result (λ parts. IsCanonicalOf (listed_grammar_view grammar)
         (parts_view parts.0 parts.1.items)) }
 {
-    let (start, kinds) = settled_start(alloc, &grammar)?;
-    let GrammarParts {
+    let (start, kinds) = settled_start(alloc, &grammar.listed())?;
+    let ListedParts {
         mut definitions,
         firsts,
         likely,
+        seed,
         ..
     } = grammar.into_parts();
-    let rows = form_definitions(alloc, &mut definitions, &likely, kinds, &firsts)?;
-    let defs = prune_map(alloc, &likely, &start, definitions, &rows)?;
+    let rows = form_definitions(alloc, &mut definitions, &likely, &seed, kinds, &firsts)?;
+    let defs = prune_list(alloc, &likely, &start, definitions, &rows)?;
     Ok((start, defs))
 }
 
@@ -165,21 +168,21 @@ fn stored_definition_forms<P: Patterns>(
     alloc: Global,
     store: &mut P,
     settled: &SettledDefinitions<'_>,
-    grammar: &Grammar,
+    grammar: &Listed<'_>,
 ) -> Result<Vec<(String, Pattern)>, AllocError>
-    requires { definitions_view settled.now.definitions.now.entries
-        ≡ (grammar_view grammar.now).definitions }
+    requires { definitions_view settled.now.definitions.now.entries.items
+        ≡ (listed_view grammar.now).definitions }
     ensures made { IfOk result (λ v. definitions_view v.items
         ≡ map (λ (d : Text × Tree). (d.0, settled_form settled.now d.1))
-        (definitions_view settled.now.definitions.now.entries)) }
+        (definitions_view settled.now.definitions.now.entries.items)) }
     ensures distinct { IfOk result
         (λ v. IsDistinct bytes_eq (map (λ d. d.0) (definitions_view v.items))) }
     ensures kept { KeepsIds P.knows P.tree_of store.old store.new }
 {
     let mut forms = Vec::with_capacity(alloc, settled.definitions.len())?;
     for number in 0..settled.definitions.len() {
-        let name = name_of(settled.definitions, number).clone()?;
-        let body = body_of(settled.definitions, number);
+        let name = settled.definitions.name_of(number).clone()?;
+        let body = settled.definitions.body_of(number);
         let form = stored_body_form(alloc, store, settled, body, grammar.firsts(number))?;
         forms.push((name, form))?;
     }

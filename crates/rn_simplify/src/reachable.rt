@@ -13,7 +13,7 @@ ghost use Rattle.rn_simplify.specs.inside.DefinitionNumbers.{MarksReached, refer
 use crate::definition_numbers::Likely;
 use crate::reference_numbers::referred_numbers;
 use crate::settled_definitions::SettledDefinitions;
-use rn_assemble::{Definitions, LikelyReferences};
+use rn_assemble::{DefinitionList, LikelyReferences};
 use rn_pattern::graph::reached_nodes;
 use rn_pattern::{Pattern, Rows};
 use std::alloc::{AllocError, Global};
@@ -27,7 +27,7 @@ pub(crate) fn prune_forms(
     forms: Vec<(String, Pattern)>,
 ) -> Result<Vec<(String, Pattern)>, AllocError>
     requires named { map (λ d. d.0) (definitions_view forms.items)
-        ≡ map (λ d. d.0) (definitions_view settled.now.definitions.now.entries) }
+        ≡ map (λ d. d.0) (definitions_view settled.now.definitions.now.entries.items) }
     requires distinct { IsDistinct bytes_eq (map (λ d. d.0) (definitions_view forms.items)) }
     ensures { IfOk result (λ v. IsPruned
         (record { start = pattern_view start.now; definitions = definitions_view forms.items })
@@ -37,38 +37,26 @@ pub(crate) fn prune_forms(
     sorted_marked(forms, &is_reached)
 }
 
-/// The forms in the map that the start reaches, in the order of their names. The definitions that each form refers to
+/// The forms in the list that the start reaches, in the order of their names. The definitions that each form refers to
 /// are given.
-pub(crate) fn prune_map(
+pub(crate) fn prune_list(
     alloc: Global,
     likely: &LikelyReferences,
     start: &Pattern,
-    definitions: Definitions,
+    definitions: DefinitionList,
     rows: &Rows,
 ) -> Result<Vec<(String, Pattern)>, AllocError>
-    requires { rows_of rows.now ≡ rows_by (definitions_view definitions.entries)
-        (definitions_view definitions.entries) }
+    requires { rows_of rows.now ≡ rows_by (definitions_view definitions.entries.items)
+        (definitions_view definitions.entries.items) }
     ensures { IfOk result (λ v. IsPruned
         (record {
           start = pattern_view start.now;
-          definitions = definitions_view definitions.entries;
+          definitions = definitions_view definitions.entries.items;
         })
         (record { start = pattern_view start.now; definitions = definitions_view v.items })) }
 {
-    let is_reached = reached_in_map(alloc, likely, start, &definitions, rows)?;
-    let forms = entries_of(alloc, definitions)?;
-    sorted_marked(forms, &is_reached)
-}
-
-/// The entries of the map, in their order.
-fn entries_of(alloc: Global, definitions: Definitions) -> Result<Vec<(String, Pattern)>, AllocError>
-    ensures entries { IfOk result (λ v. v.items ≡ definitions.entries) }
-    ensures distinct { IfOk result
-        (λ v. IsDistinct bytes_eq (map (λ d. d.0) (definitions_view v.items))) }
-{
-    let mut entries = Vec::with_capacity(alloc, definitions.len())?;
-    entries.extend(definitions.into_iter())?;
-    Ok(entries)
+    let is_reached = reached_in_list(alloc, likely, start, &definitions, rows)?;
+    sorted_marked(definitions.into_entries(), &is_reached)
 }
 
 /// The forms that are marked, in the order of their names.
@@ -87,20 +75,20 @@ fn sorted_marked(
     Ok(forms)
 }
 
-/// For each form in the map, whether the start reaches it.
-fn reached_in_map(
+/// For each form in the list, whether the start reaches it.
+fn reached_in_list(
     alloc: Global,
     likely: &LikelyReferences,
     start: &Pattern,
-    definitions: &Definitions,
+    definitions: &DefinitionList,
     rows: &Rows,
 ) -> Result<Vec<bool>, AllocError>
-    requires { rows_of rows.now ≡ rows_by (definitions_view definitions.now.entries)
-        (definitions_view definitions.now.entries) }
+    requires { rows_of rows.now ≡ rows_by (definitions_view definitions.now.entries.items)
+        (definitions_view definitions.now.entries.items) }
     ensures { IfOk result
         (λ marks. MarksReached (record {
           start = pattern_view start.now;
-          definitions = definitions_view definitions.now.entries;
+          definitions = definitions_view definitions.now.entries.items;
         }) marks.items) }
 {
     let first = start_numbers(alloc, definitions, likely, start)?;
@@ -110,15 +98,15 @@ fn reached_in_map(
 /// The definitions that the form of the start refers to.
 fn start_numbers(
     alloc: Global,
-    definitions: &Definitions,
+    definitions: &DefinitionList,
     likely: &LikelyReferences,
     start: &Pattern,
 ) -> Result<Vec<usize>, AllocError>
     ensures { IfOk result (λ v. v.items ≡ reference_numbers
-        (definitions_view definitions.now.entries) (pattern_view start.now)) }
+        (definitions_view definitions.now.entries.items) (pattern_view start.now)) }
 {
     let mut found = Vec::new(alloc);
-    let mut numbers = Likely::of(likely.of_start());
+    let mut numbers = Likely::of_start(likely);
     referred_numbers(&mut found, definitions, &mut numbers, start)?;
     Ok(found)
 }
@@ -131,7 +119,7 @@ fn reached_forms(
     forms: &[(String, Pattern)],
 ) -> Result<Vec<bool>, AllocError>
     requires { map (λ d. d.0) (definitions_view forms.now)
-        ≡ map (λ d. d.0) (definitions_view settled.now.definitions.now.entries) }
+        ≡ map (λ d. d.0) (definitions_view settled.now.definitions.now.entries.items) }
     ensures size { IfOk result (λ marks. length marks.items ≡ length forms.now) }
     ensures reached { IfOk result
         (λ marks. MarksReached (record {
@@ -151,13 +139,13 @@ fn rows_of_forms(
     forms: &[(String, Pattern)],
 ) -> Result<Rows, AllocError>
     ensures { IfOk result (λ rows. rows_of rows
-        ≡ rows_by (definitions_view settled.now.definitions.now.entries)
+        ≡ rows_by (definitions_view settled.now.definitions.now.entries.items)
         (definitions_view forms.now)) }
 {
     let mut rows = Rows::with_capacity(alloc, forms.len())?;
     let mut row = Vec::new(alloc);
     for (_, form) in forms {
-        let mut numbers = Likely::of(settled.likely.of_definition(rows.len()));
+        let mut numbers = Likely::of_definition(settled.likely, rows.len());
         referred_numbers(&mut row, settled.definitions, &mut numbers, form)?;
         rows.push_row(&row)?;
     }

@@ -5,7 +5,7 @@ ghost use Rattle.rn_pattern.specs.View.{pattern_view, shared_trees};
 ghost use Rattle.rn_simplify.specs.inside.DefinitionNumbers.{all_reference_numbers, numbers_of, reference_numbers};
 
 use crate::definition_numbers::{Likely, find_number};
-use rn_assemble::Definitions;
+use rn_assemble::DefinitionList;
 use rn_pattern::Pattern;
 use std::alloc::AllocError;
 use std::rc::Rc;
@@ -14,12 +14,12 @@ use std::rc::Rc;
 /// likely numbers are tried first. Names that have no definition are passed over.
 pub(crate) fn referred_numbers(
     found: &mut Vec<usize>,
-    definitions: &Definitions,
+    definitions: &DefinitionList,
     likely: &mut Likely<'_>,
     pattern: &Pattern,
 ) -> Result<(), AllocError>
     ensures { OnOk result (found.new.items ≡ reference_numbers
-        (definitions_view definitions.now.entries) (pattern_view pattern.now)) }
+        (definitions_view definitions.now.entries.items) (pattern_view pattern.now)) }
 {
     found.clear();
     add_pattern(found, definitions, likely, pattern)
@@ -29,12 +29,12 @@ pub(crate) fn referred_numbers(
 #[cycle(add_pattern)]
 fn add_pattern(
     found: &mut Vec<usize>,
-    definitions: &Definitions,
+    definitions: &DefinitionList,
     likely: &mut Likely<'_>,
     pattern: &Pattern,
 ) -> Result<(), AllocError>
     ensures { OnOk result (found.new.items ≡ found.old.items ++ reference_numbers
-        (definitions_view definitions.now.entries) (pattern_view pattern.now)) }
+        (definitions_view definitions.now.entries.items) (pattern_view pattern.now)) }
 {
     match pattern {
         Pattern::Ref(name) => add_name(found, definitions, likely, name),
@@ -58,12 +58,12 @@ fn add_pattern(
 #[cycle(add_pattern)]
 fn add_patterns(
     found: &mut Vec<usize>,
-    definitions: &Definitions,
+    definitions: &DefinitionList,
     likely: &mut Likely<'_>,
     members: &[Rc<Pattern>],
 ) -> Result<(), AllocError>
     ensures { OnOk result (found.new.items ≡ found.old.items ++ all_reference_numbers
-        (definitions_view definitions.now.entries) (shared_trees members.now)) }
+        (definitions_view definitions.now.entries.items) (shared_trees members.now)) }
 {
     for member in members {
         add_pattern(found, definitions, likely, member)?;
@@ -74,12 +74,12 @@ fn add_patterns(
 /// Adds the reference to a name, if it has a definition.
 fn add_name(
     found: &mut Vec<usize>,
-    definitions: &Definitions,
+    definitions: &DefinitionList,
     likely: &mut Likely<'_>,
     name: &str,
 ) -> Result<(), AllocError>
     ensures { OnOk result (found.new.items ≡ found.old.items
-        ++ numbers_of (definitions_view definitions.now.entries) (name.now ∷ [])) }
+        ++ numbers_of (definitions_view definitions.now.entries.items) (name.now ∷ [])) }
 {
     if let Some(number) = find_number(definitions, likely, name) {
         found.push(number)?;

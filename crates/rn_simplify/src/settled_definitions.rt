@@ -3,17 +3,20 @@ ghost use Rattle.std.specs.Prelude.{◌≡◌, length};
 
 use crate::definition_numbers::{Likely, find_number};
 use crate::form_kind::FormKind;
-use rn_assemble::{Definitions, LikelyReferences};
+use rn_assemble::{DefinitionList, LikelyReferences};
+use rn_pattern::Seed;
 
 /// What the references to the definitions of a grammar become.
 #[derive(Drop)]
 pub(crate) struct SettledDefinitions<'g> {
-    pub(crate) definitions: &'g Definitions,
+    pub(crate) definitions: &'g DefinitionList,
     /// The kind of the form of each definition, by its number.
     pub(crate) kinds: Vec<FormKind>,
     /// Where to look first for what a reference is to.
     pub(crate) likely: &'g LikelyReferences,
-    ghost sized: { length kinds.items ≡ length definitions.now.entries },
+    /// A seed for hash maps of what the definitions hold.
+    pub(crate) seed: &'g Seed,
+    ghost sized: { length kinds.items ≡ length definitions.now.entries.items },
 }
 
 impl SettledDefinitions<'_> {

@@ -28,7 +28,7 @@ fn reference_form<P: Patterns>(
         (becomes settled.now name.now)) }
     ensures kept { KeepsIds P.knows P.tree_of store.old store.new }
 {
-    match settled.kind_of(&mut Likely::of(&[]), name) {
+    match settled.kind_of(&mut Likely::of_none(settled.likely), name) {
         FormKind::NotAllowed => store.not_allowed(),
         FormKind::Empty => store.empty(),
         FormKind::Other => store.reference(name),

@@ -37,8 +37,9 @@ fn a_grammar_is_normalised(rt: HostRuntime) {
 /// Whether memory is refused to what normalises a grammar as it is given up, whose canonical form has one definition.
 fn is_refused_given_up(rt: &(impl Abort + AllocGlobal), grammar: Box<Grammar>) -> bool {
     let grammar = Box::into_inner(grammar);
+    let listed = grammar.into_listed(rt.alloc()).expect(rt, "no memory");
     mark(rt.alloc(), BEGIN);
-    let answer = into_normal(rt.alloc(), grammar);
+    let answer = into_normal(rt.alloc(), listed);
     mark(rt.alloc(), END);
     is_normalised(rt, &answer);
     answer.is_err()

@@ -136,7 +136,10 @@ fn text_of_lent(rt: &(impl Abort + AllocGlobal), grammar: &Grammar) -> String {
 
 /// The text of the canonical grammar of a grammar that is given up.
 fn text_of_given_up(rt: &(impl Abort + AllocGlobal), grammar: Box<Grammar>) -> String {
-    let normal = into_normal(rt.alloc(), Box::into_inner(grammar)).expect(rt, "no memory");
+    let listed = Box::into_inner(grammar)
+        .into_listed(rt.alloc())
+        .expect(rt, "no memory");
+    let normal = into_normal(rt.alloc(), listed).expect(rt, "no memory");
     print(rt.alloc(), &normal).expect(rt, "no text")
 }
 

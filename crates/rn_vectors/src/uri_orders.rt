@@ -6,7 +6,7 @@ use crate::long_uris::{lengthened, prints};
 use crate::merges::{prints_again, prints_in_either_store};
 use rn_assemble::assemble_short;
 use rn_modset::ModuleSet;
-use rn_simplify::{normalise, print};
+use rn_simplify::{into_normal, print};
 use std::process::Abort;
 
 /// A line for each URI, which declares it for a prefix with this letter and its number.
@@ -179,7 +179,7 @@ fn many_uris_keep_their_order(rt: HostRuntime) {
 /// The text of a set's grammar with short texts in the place of its long URIs.
 fn short_text(rt: &(impl Abort + AllocGlobal), set: &ModuleSet) -> String {
     let short = assemble_short(rt.alloc(), set).expect(rt, "no grammar");
-    let normal = normalise(rt.alloc(), &short.grammar).expect(rt, "no memory");
+    let normal = into_normal(rt.alloc(), short.grammar).expect(rt, "no memory");
     print(rt.alloc(), &normal).expect(rt, "no text")
 }
 

@@ -1,6 +1,6 @@
 -- Definitions of which the first have their forms, and the others their bodies.
 use Rattle.std.proofs.Common.{◌≡◌, ◌+◌, ◌<◌, ℕ, zero, suc, List, [], ◌∷◌, ◌++◌, length, map, take, get_or, position, refl, sym, ap, ◌∙◌, arith}
-use Rattle.std.specs.Prelude.{bytes_eq, String, string_bytes}
+use Rattle.std.specs.Prelude.{bytes_eq, String}
 use Rattle.std.specs.Option.{option_map_or}
 use Rattle.std.specs.declared.alloc.Global.{Global}
 use Rattle.std.specs.List.{filter_map}
@@ -8,7 +8,6 @@ use Rattle.std.proofs.lemmas.List.{length-map, map-append, take_all, take_more}
 use Rattle.indexmap.specs.IndexMap.{set_value_at}
 use Rattle.rn_pattern.specs.Tree.{Tree}
 use Rattle.rn_text.specs.Texts.{Text}
-use Rattle.rn_pattern.specs.View.{pattern_view}
 use Rattle.rn_pattern.specs.declared.tree.Pattern.{Pattern}
 use Rattle.rn_assemble.specs.GrammarView.{definitions_view}
 use Rattle.rn_simplify.specs.inside.DefinitionNumbers.{numbers_of, rows_by}
@@ -26,11 +25,6 @@ size_set (d ∷ ds) (suc n) p = ap suc (size_set ds n p)
 -- there are as many definitions as before one got another body
 pub size_put : (es new : List (String Global × Pattern)) (n : ℕ) (p : Tree) → definitions_view new ≡ set_value_at (definitions_view es) n p → length new ≡ length es
 size_put es new n p put = sym (size_of_view new) ∙ ap length put ∙ size_set (definitions_view es) n p ∙ size_of_view es
-
-pub set_view : (es : List (String Global × Pattern)) (n : ℕ) (w : Pattern) → definitions_view (set_value_at es n w) ≡ set_value_at (definitions_view es) n (pattern_view w)
-set_view [] n w = refl
-set_view (e ∷ es) zero w = refl
-set_view (e ∷ es) (suc n) w = ap (λ ds. (string_bytes e.0, pattern_view e.1) ∷ ds) (set_view es n w)
 
 -- a definition that gets its own body stays
 pub set_same : (ds : List (Text × Tree)) (n : ℕ) (d : Text × Tree) → n < length ds → set_value_at ds n (get_or ds n d).1 ≡ ds

@@ -9,7 +9,7 @@ use Rattle.rn_pattern.specs.Tree.{Tree}
 use Rattle.rn_text.specs.Texts.{Text}
 use Rattle.rn_pattern.specs.View.{pattern_view}
 use Rattle.rn_simplify.specs.inside.FormKinds.{becomes}
-use Rattle.rn_simplify.proofs.Simplified.Marks.{distinct_names, forms_more}
+use Rattle.rn_simplify.proofs.Simplified.Marks.{forms_more}
 use Rattle.rn_simplify.proofs.Simplified.FormedGrammar.{names_formed}
 use Rattle.rn_simplify.proofs.Simplified.DefinitionNumbers.{size_of_view}
 use Rattle.rn_simplify.proofs.Simplified.ReferenceGraph.{nothing}
@@ -19,28 +19,28 @@ pub body_form-requires : goal.body_form-requires
 body_form-requires c =
     let n = c.loop-number.number in
     subst (λ p. AreFirsts c.firsts.result.now (joined_members p)) (sym (c.body_of-body.ensures nothing ∙ ap (λ ds. (get_or ds n nothing).1) c.requires))
-    (c.firsts.ensures nothing (omega (arith, ap length c.requires, size_of_view c.args.settled.now.definitions.now.entries)))
+    (c.firsts.ensures nothing (omega (arith, ap length c.requires, size_of_view c.args.settled.now.definitions.now.entries.items)))
 
 pub loop-number-preserved : goal.loop-number-preserved
 loop-number-preserved c =
-    let ds = definitions_view c.args.settled.now.definitions.now.entries in
+    let ds = definitions_view c.args.settled.now.definitions.now.entries.items in
     let t = becomes c.args.settled.now in
     let n = c.loop-number.number in
     let name : string_bytes c.in_ok-name.name ≡ (get_or ds n nothing).0 = c.in_ok-name.ensures.cases ∙ c.name_of.ensures nothing in
     let made : pattern_view c.in_ok-form.form ≡ form.canonical t (get_or ds n nothing).1 =
     c.in_ok-form.ensures ∙ ap (form.canonical t) (c.body_of-body.ensures nothing) in
     forms_more (λ (d : Text × Tree). (d.0, form.canonical t d.1)) ds n c.loop-number.forms.items c.push.new.self.items (c.in_ok-name.name, c.in_ok-form.form)
-    (omega (arith, size_of_view c.args.settled.now.definitions.now.entries)) c.loop-number.invariant c.in_ok-push.ensures.items (λ i. (name i, made i))
+    (omega (arith, size_of_view c.args.settled.now.definitions.now.entries.items)) c.loop-number.invariant c.in_ok-push.ensures.items (λ i. (name i, made i))
 
 pub returns-clause-made : goal.returns-clause-made
 returns-clause-made c =
-    let ds = definitions_view c.args.settled.now.definitions.now.entries in
+    let ds = definitions_view c.args.settled.now.definitions.now.entries.items in
     let t = becomes c.args.settled.now in
-    c.loop-number.invariant ∙ ap (map (λ (d : Text × Tree). (d.0, form.canonical t d.1))) (take_all c.loop-number.number ds (omega (arith, size_of_view c.args.settled.now.definitions.now.entries)))
+    c.loop-number.invariant ∙ ap (map (λ (d : Text × Tree). (d.0, form.canonical t d.1))) (take_all c.loop-number.number ds (omega (arith, size_of_view c.args.settled.now.definitions.now.entries.items)))
 
 pub returns-clause-distinct : goal.returns-clause-distinct
 returns-clause-distinct c =
-    let ds = definitions_view c.args.settled.now.definitions.now.entries in
+    let ds = definitions_view c.args.settled.now.definitions.now.entries.items in
     let t = becomes c.args.settled.now in
-    let made = c.loop-number.invariant ∙ ap (map (λ (d : Text × Tree). (d.0, form.canonical t d.1))) (take_all c.loop-number.number ds (omega (arith, size_of_view c.args.settled.now.definitions.now.entries))) in
-    subst (IsDistinct bytes_eq) (sym (ap (map (λ (d : Text × Tree). d.0)) made ∙ names_formed t ds)) (distinct_names c.args.settled.now.definitions.now.entries c.len-number-end.ensures.unique)
+    let made = c.loop-number.invariant ∙ ap (map (λ (d : Text × Tree). (d.0, form.canonical t d.1))) (take_all c.loop-number.number ds (omega (arith, size_of_view c.args.settled.now.definitions.now.entries.items))) in
+    subst (IsDistinct bytes_eq) (sym (ap (map (λ (d : Text × Tree). d.0)) made ∙ names_formed t ds)) c.args.settled.now.definitions.now.distinct

@@ -11,10 +11,10 @@ pub evaluate_body-requires : goal.evaluate_body-requires
 evaluate_body-requires c =
     let n = c.args.number in
     subst (λ p. AreFirsts c.firsts.result.now (joined_members p)) (sym (c.body_of-body.ensures nothing ∙ ap (λ ds. (get_or ds n nothing).1) c.requires.of))
-    (c.firsts.ensures nothing (omega (arith, c.requires.within, ap length c.requires.of, size_of_view c.args.settled.now.definitions.now.entries)))
+    (c.firsts.ensures nothing (omega (arith, c.requires.within, ap length c.requires.of, size_of_view c.args.settled.now.definitions.now.entries.items)))
 
 pub returns-clause-settled : goal.returns-clause-settled
 returns-clause-settled c = λ d.
-    let ds = definitions_view c.args.settled.now.definitions.now.entries in
+    let ds = definitions_view c.args.settled.now.definitions.now.entries.items in
     let kinds = c.args.settled.now.kinds.items in
     ap (set kinds c.args.number) (c.in_ok-kind.ensures ∙ ap (tree_kind (kind_at ds kinds)) (c.body_of-body.ensures d) ∙ sym (evaluated_is (kind_at ds kinds) (get_or ds c.args.number d).1))

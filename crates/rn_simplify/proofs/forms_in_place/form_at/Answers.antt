@@ -11,4 +11,4 @@ pub changed_form-requires : goal.changed_form-requires
 changed_form-requires c = subst (λ p. AreFirsts c.args.firsts.now (joined_members p)) (sym (c.body_of-body.ensures nothing)) (c.requires.firsts nothing)
 
 pub returns-clause-made : goal.returns-clause-made
-returns-clause-made c = λ d. ap (form_or c.in_ok-made.made) (sym (c.body_of-body.ensures d)) ∙ c.in_ok-made.ensures ∙ ap (canonical (becomes_by (definitions_view c.args.definitions.now.entries) c.args.kinds.items)) (c.body_of-body.ensures d)
+returns-clause-made c = λ d. ap (form_or c.in_ok-made.made) (sym (c.body_of-body.ensures d)) ∙ c.in_ok-made.ensures ∙ ap (canonical (becomes_by (definitions_view c.args.definitions.now.entries.items) c.args.kinds.items)) (c.body_of-body.ensures d)

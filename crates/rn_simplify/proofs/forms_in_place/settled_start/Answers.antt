@@ -1,6 +1,6 @@
 use Rattle.std.proofs.Common.{List, length, sym, ap, ◌∙◌, subst}
 use Rattle.rn_assemble.specs.Firsts.{AreFirsts, joined_members}
-use Rattle.rn_assemble.specs.GrammarView.{grammar_view}
+use Rattle.rn_assemble.specs.ListedView.{listed_view}
 use Rattle.rn_pattern.specs.Canonical.{canonical}
 use Rattle.rn_pattern.specs.Tree.{Tree}
 use Rattle.rn_text.specs.Texts.{Text}
@@ -15,13 +15,13 @@ body_form-requires c = subst (λ (p : Tree). AreFirsts c.start_firsts-firsts.res
 pub returns-clause-sized : goal.returns-clause-sized
 returns-clause-sized c =
     let s = c.in_ok-settled.settled in
-    s.sized ∙ sym (size_of_view s.definitions.now.entries) ∙ ap length c.in_ok-settled.ensures.definitions
+    s.sized ∙ sym (size_of_view s.definitions.now.entries.items) ∙ ap length c.in_ok-settled.ensures.definitions
 
 pub returns-clause-exact : goal.returns-clause-exact
 returns-clause-exact c =
     let s = c.in_ok-settled.settled in
     let (rank, settling) = c.in_ok-settled.ensures.exact in
-    (rank, subst (λ (ds : List (Text × Tree)). IsSettling (grammar_view c.args.grammar.now) (becomes_by ds s.kinds.items) rank) c.in_ok-settled.ensures.definitions settling)
+    (rank, subst (λ (ds : List (Text × Tree)). IsSettling (listed_view c.args.grammar.now) (becomes_by ds s.kinds.items) rank) c.in_ok-settled.ensures.definitions settling)
 
 pub returns-clause-start : goal.returns-clause-start
 returns-clause-start c =

@@ -9,5 +9,5 @@ use Rattle.rn_simplify.proofs.normalising.stored_definition_forms.Given as goal
 abbrev pub invariant-loop-number : goal.invariant-loop-number
 invariant-loop-number g l = record {
   kept : KeepsIds g.P.Patterns.knows g.P.Patterns.tree_of l.initial.store l.store;
-  made : definitions_view l.forms.items ≡ map (λ (d : Text × Tree). (d.0, settled_form l.settled d.1)) (take l.number (definitions_view l.settled.definitions.now.entries));
+  made : definitions_view l.forms.items ≡ map (λ (d : Text × Tree). (d.0, settled_form l.settled d.1)) (take l.number (definitions_view l.settled.definitions.now.entries.items));
 }

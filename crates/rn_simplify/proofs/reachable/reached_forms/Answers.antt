@@ -13,14 +13,14 @@ use Rattle.rn_simplify.proofs.reachable.reached_forms.Goals as goal
 
 pub reached_nodes-requires-clause-graph : goal.reached_nodes-requires-clause-graph
 reached_nodes-requires-clause-graph c =
-    let ds = definitions_view c.args.settled.now.definitions.now.entries in
+    let ds = definitions_view c.args.settled.now.definitions.now.entries.items in
     let fs = definitions_view c.args.forms.now in
     let graph : rows_of c.in_ok-rows.rows ≡ rows_by fs fs = c.in_ok-rows.ensures ∙ rows_same ds fs c.requires in
     subst IsGraph (sym graph) (rows_graph fs fs refl)
 
 pub reached_nodes-requires-clause-first_within : goal.reached_nodes-requires-clause-first_within
 reached_nodes-requires-clause-first_within c = λ y k.
-    let ds = definitions_view c.args.settled.now.definitions.now.entries in
+    let ds = definitions_view c.args.settled.now.definitions.now.entries.items in
     let fs = definitions_view c.args.forms.now in
     let names = references (pattern_view c.args.start.now) in
     let graph : rows_of c.in_ok-rows.rows ≡ rows_by fs fs = c.in_ok-rows.ensures ∙ rows_same ds fs c.requires in
@@ -29,7 +29,7 @@ reached_nodes-requires-clause-first_within c = λ y k.
 
 pub returns-clause-reached : goal.returns-clause-reached
 returns-clause-reached c =
-    let ds = definitions_view c.args.settled.now.definitions.now.entries in
+    let ds = definitions_view c.args.settled.now.definitions.now.entries.items in
     let fs = definitions_view c.args.forms.now in
     let F : Grammar = record { start = pattern_view c.args.start.now; definitions = fs } in
     let names = references (pattern_view c.args.start.now) in

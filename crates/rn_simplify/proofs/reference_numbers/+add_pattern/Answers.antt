@@ -9,14 +9,14 @@ use Rattle.rn_simplify.proofs.reference_numbers.+add_pattern.Goals as goal
 
 pub add_pattern-returns-in-Group : goal.add_pattern-returns-in-Group
 add_pattern-returns-in-Group t c =
-    let ds = definitions_view c.args.definitions.now.entries in
+    let ds = definitions_view c.args.definitions.now.entries.items in
     on_ok_weaker c.add_patterns.result
     (λ h. h ∙ ap (λ ns. c.args.found.now.items ++ ns) (ap (numbers_of ds) (of_members c.args.pattern.now c.in-Group.members c.deref-in-Group.result.now c.deref-in-Group.ensures.value c.in-Group.is)))
     c.add_patterns.ensures
 
 pub add_patterns-loop-member-preserved : goal.add_patterns-loop-member-preserved
 add_patterns-loop-member-preserved t c =
-    let ds = definitions_view c.args.definitions.now.entries in
+    let ds = definitions_view c.args.definitions.now.entries.items in
     let before = c.args.found.now.items in
     let added : c.add_pattern.new.found.items ≡ c.loop-member.found.items ++ reference_numbers ds (shared_view c.member-item.result) =
     c.in_ok-add_pattern.ensures ∙ ap (λ p. c.loop-member.found.items ++ reference_numbers ds (pattern_view p)) c.deref.ensures in
@@ -25,5 +25,5 @@ add_patterns-loop-member-preserved t c =
 
 pub add_patterns-returns : goal.add_patterns-returns
 add_patterns-returns t c =
-    let ds = definitions_view c.args.definitions.now.entries in
+    let ds = definitions_view c.args.definitions.now.entries.items in
     c.loop-member.invariant ∙ ap (λ ps. c.args.found.now.items ++ all_reference_numbers ds (shared_trees ps)) (take_all c.loop-member.member-index c.args.members.now (omega arith))

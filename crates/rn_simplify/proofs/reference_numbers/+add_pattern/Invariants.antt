@@ -6,4 +6,4 @@ use Rattle.rn_simplify.proofs.reference_numbers.+add_pattern.Given as goal
 
 abbrev pub invariant-add_patterns-loop-member : goal.invariant-add_patterns-loop-member
 invariant-add_patterns-loop-member l =
-    l.found.items ≡ l.initial.found.items ++ all_reference_numbers (definitions_view l.definitions.entries) (shared_trees (take l.member-index l.members))
+    l.found.items ≡ l.initial.found.items ++ all_reference_numbers (definitions_view l.definitions.entries.items) (shared_trees (take l.member-index l.members))

@@ -7,5 +7,5 @@ use Rattle.rn_simplify.proofs.reference_numbers.referred_numbers.Goals as goal
 
 pub returns : goal.returns
 returns c =
-    let numbers = reference_numbers (definitions_view c.args.definitions.now.entries) (pattern_view c.args.pattern.now) in
+    let numbers = reference_numbers (definitions_view c.args.definitions.now.entries.items) (pattern_view c.args.pattern.now) in
     on_ok_weaker c.add_pattern.result (λ added. added ∙ ap (λ ns. ns ++ numbers) c.clear.ensures.items) c.add_pattern.ensures

@@ -30,7 +30,7 @@ loop-module-preserved c =
     }
 
 -- the names that are kept are those of all modules, in their order, each once
-kept : (c : goal.After-shrink_to_fit) → defined_names c.shrink_to_fit.new.self.items ≡ sorted_once text_cmp (all c.args.modules.now)
+kept : (c : goal.In_ok-heads) → defined_names c.shrink_to_fit.new.self.items ≡ sorted_once text_cmp (all c.args.modules.now)
 kept c =
     let found = defined_names c.loop-module.names.items in
     let gathered : found ≡ all c.args.modules.now =
@@ -44,7 +44,7 @@ invariant_of-result c = record {
 
 pub returns : goal.returns
 returns c =
-    let here : goal.After-shrink_to_fit = assumption in
+    let here : goal.In_ok-heads = assumption in
     let names = all c.args.modules.now in
     subst (AreNames (modules_view c.args.modules.now)) (sym (kept here))
     (record { in_order = climbs_sorted_once text_cmp nat_list_cmp_total text_same names; defined = sorted_once_members text_cmp text_same names })

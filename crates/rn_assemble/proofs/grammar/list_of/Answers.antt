@@ -4,22 +4,24 @@ use Rattle.std.specs.List.{IsDistinct}
 use Rattle.std.specs.declared.alloc.Global.{Global}
 use Rattle.std.proofs.lemmas.Iterator.Adapters.{items_from_extend}
 use Rattle.std.proofs.lemmas.Iterator.Consumers.{YieldsList-from_rest}
-use Rattle.rn_assemble.specs.GrammarView.{definitions_view}
+use Rattle.rn_assemble.specs.DefinitionsView.{definitions_view}
 use Rattle.rn_pattern.specs.Tree.{Tree}
 use Rattle.rn_pattern.specs.declared.tree.Pattern.{Pattern}
 use Rattle.rn_text.specs.Texts.{Text}
-use Rattle.rn_simplify.proofs.Simplified.Marks.{distinct_names}
-use Rattle.rn_simplify.proofs.reachable.entries_of.Goals as goal
+use Rattle.rn_assemble.proofs.Referring.ListedNames.{distinct_names}
+use Rattle.rn_assemble.proofs.grammar.list_of.Goals as goal
 
-pub returns-clause-entries : goal.returns-clause-entries
-returns-clause-entries c =
+pub returns : goal.returns
+returns c =
     let es = c.args.definitions.entries in
     let kept = items_from_extend c.extend.result c.extend.ensures.ran (YieldsList-from_rest es c.into_iter.ensures.into_iter_gives.0) in
     search rules
 
-pub returns-clause-distinct : goal.returns-clause-distinct
-returns-clause-distinct c =
+pub invariant_of-result : goal.invariant_of-result
+invariant_of-result c =
     let es = c.args.definitions.entries in
     let kept = items_from_extend c.extend.result c.extend.ensures.ran (YieldsList-from_rest es c.into_iter.ensures.into_iter_gives.0) in
     let same : c.extend.new.self.items ≡ es = search rules in
-    subst (λ (fs : List (String Global × Pattern)). IsDistinct bytes_eq (map (λ (d : Text × Tree). d.0) (definitions_view fs))) (sym same) (distinct_names es c.into_iter.ensures.into_iter_gives.4)
+    record {
+      distinct = subst (λ (fs : List (String Global × Pattern)). IsDistinct bytes_eq (map (λ (d : Text × Tree). d.0) (definitions_view fs))) (sym same) (distinct_names es c.into_iter.ensures.into_iter_gives.4);
+    }

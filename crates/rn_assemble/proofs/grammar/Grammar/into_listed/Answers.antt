@@ -1,0 +1,23 @@
+use Rattle.std.proofs.Common.{List, sym, ap, subst}
+use Rattle.rn_pattern.specs.Matching.{Grammar}
+use Rattle.rn_pattern.specs.Tree.{Tree}
+use Rattle.rn_pattern.specs.View.{pattern_view}
+use Rattle.rn_text.specs.Texts.{Text}
+use Rattle.rn_assemble.specs.DefinitionsView.{definitions_view}
+use Rattle.rn_assemble.specs.SettlingOrder.{IsSettlingOrder}
+use Rattle.rn_assemble.specs.WellFormed.{HasWritableTexts, IsWellFormed}
+use Rattle.rn_assemble.specs.inside.Tied.{HaveTied, firsts_of}
+use Rattle.rn_assemble.proofs.grammar.Grammar.into_listed.Goals as goal
+
+pub invariant_of-result : goal.invariant_of-result
+invariant_of-result c =
+    let j = c.args.self.joined in
+    let of : List (Text × Tree) → Grammar = λ ds. record { start = pattern_view j.start; definitions = ds } in
+    let same = ap definitions_view (sym c.in_ok-definitions.ensures) in
+    record {
+      start_tied = j.start_tied;
+      tied = subst (HaveTied (firsts_of j.firsts.items)) same j.tied;
+      in_order = subst (λ ds. IsSettlingOrder (of ds) j.order.numbers.items) same j.in_order;
+      well_formed = subst (λ ds. IsWellFormed (of ds)) same c.args.self.well_formed;
+      writable = subst (λ ds. ∥ HasWritableTexts (of ds) ∥₁) same c.args.self.writable;
+    }

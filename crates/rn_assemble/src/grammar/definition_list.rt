@@ -1,0 +1,78 @@
+// Definitions in a list, where none is looked up by a hash of its name.
+ghost use Rattle.std.specs.Prelude.{◌≡◌, ◌<◌, IfSome, bytes_eq, length, map, slice_index_or, string_bytes};
+ghost use Rattle.std.specs.List.{IsDistinct};
+ghost use Rattle.std.proofs.lemmas.Map.Keys.{IsDistinct-prop};
+ghost use Rattle.indexmap.specs.IndexMap.{set_value_at};
+ghost use Rattle.rn_pattern.specs.Tree.{Tree};
+ghost use Rattle.rn_pattern.specs.View.{pattern_view};
+ghost use Rattle.rn_text.specs.Texts.{Text};
+ghost use Rattle.rn_assemble.specs.DefinitionsView.{definitions_view};
+ghost use Rattle.rn_assemble.specs.SettlingOrder.{number_of};
+
+use rn_pattern::Pattern;
+
+/// Definitions in a list, each of a name of its own.
+#[derive(Drop)]
+pub struct DefinitionList {
+    pub(crate) entries: Vec<(String, Pattern)>,
+    ghost distinct: { IsDistinct bytes_eq (map (λ (d : Text × Tree). d.0)
+        (definitions_view entries.items)) } by { IsDistinct-prop _ _ },
+}
+
+impl DefinitionList {
+    /// How many definitions there are.
+    pub fn len(&self) -> usize
+        ensures { result ≡ length self.now.entries.items }
+    {
+        self.entries.len()
+    }
+
+    /// The name of the definition with a number.
+    pub fn name_of(&self, number: usize) -> &String
+        requires { number < length self.now.entries.items }
+        ensures { (d : Text × Tree) → string_bytes result.now
+            ≡ (slice_index_or (definitions_view self.now.entries.items) number d).0 }
+    {
+        &self.entries[number].0
+    }
+
+    /// The body of the definition with a number.
+    pub fn body_of(&self, number: usize) -> &Pattern
+        requires { number < length self.now.entries.items }
+        ensures { (d : Text × Tree) → pattern_view result.now
+            ≡ (slice_index_or (definitions_view self.now.entries.items) number d).1 }
+    {
+        &self.entries[number].1
+    }
+
+    /// The number of the definition of a name, if there is one. The definitions are looked through one by one.
+    pub fn number_of(&self, name: &str) -> Option<usize>
+        ensures number { result ≡ number_of (definitions_view self.now.entries.items) name.now }
+        ensures within { IfSome result (λ k. k < length self.now.entries.items) }
+    {
+        for number in 0..self.entries.len() {
+            if self.entries[number].0.as_str() == name {
+                return Some(number);
+            }
+        }
+        None
+    }
+
+    /// Puts a body in the place of that of the definition with a number.
+    pub fn put(&mut self, number: usize, body: Pattern)
+        requires { number < length self.old.entries.items }
+        ensures { definitions_view self.new.entries.items
+            ≡ set_value_at (definitions_view self.old.entries.items) number (pattern_view body) }
+    {
+        self.entries[number].1 = body;
+    }
+
+    /// The names with their bodies, in the order of the list.
+    pub fn into_entries(self) -> Vec<(String, Pattern)>
+        ensures entries { result.items ≡ self.entries.items }
+        ensures distinct { IsDistinct bytes_eq
+            (map (λ (d : Text × Tree). d.0) (definitions_view result.items)) }
+    {
+        self.entries
+    }
+}
