@@ -3,6 +3,7 @@
 
 pub mod laws;
 pub mod lines;
+pub mod memory;
 pub mod run;
 pub mod streams;
 pub mod text_faults;
@@ -11,6 +12,7 @@ pub mod verdict;
 pub mod words;
 
 pub use lines::{fault_line, list_line, refusal_line, status};
+pub use memory::keep_large_lists;
 pub use run::{RunFault, Status, print_last, print_set, read_bundles, run_print};
 pub use streams::{
     Failed, Input, MAX_INPUT, Output, ReadFault, Sink, Source, read_input, write_output,

@@ -1,5 +1,7 @@
 // From bundles and sets to the printed schema.
-ghost use Rattle.std.specs.Prelude.{◌≡◌, false, IfOk, IfErr};
+ghost use Rattle.std.specs.Prelude.{◌≡◌, ◌≤◌, false, length, IfOk, IfErr};
+ghost use Rattle.rn_modset.specs.Limits.{max_contributions};
+ghost use Rattle.rn_modset.specs.Sets.{IsNotJoined, IsSet, union};
 ghost use Rattle.rn_merge.specs.Runs.{bundles_view, IsUnion, HasNoUnion, IsPrinting, IsRun, LeavesSink};
 ghost use Rattle.rn_merge.specs.inside.Outcomes.{refusal_outcome};
 
@@ -69,9 +71,24 @@ pub fn read_bundles(alloc: Global, bundles: &[Vec<u8>]) -> Result<ModuleSet, Run
             Err(BundleFault::Memory) => return Err(RunFault::Memory),
             Err(fault) => return Err(RunFault::Bundle { index, fault }),
         };
-        union.join(&set)?;
+        union = united(union, set)?;
     }
     Ok(union)
+}
+
+/// The union of two sets that are given up. Where the one is empty, the other stays what it is, and no text of it is
+/// copied. `Full` and `Memory` as [`ModuleSet::join`] says them.
+fn united(mut held: ModuleSet, other: ModuleSet) -> Result<ModuleSet, AddFault>
+    requires { IsSet other }
+    ensures ok { IfOk result (λ s. s ≡ union held other) }
+    ensures few { IfOk result (λ s. length s ≤ max_contributions) }
+    ensures err { IfErr result (IsNotJoined held other) }
+{
+    if held.is_empty() {
+        return Ok(other);
+    }
+    held.join(&other)?;
+    Ok(held)
 }
 
 /// Writes the schema of a set to a sink that has not failed, or answers the refusal that is the
