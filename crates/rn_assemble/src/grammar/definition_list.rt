@@ -3,13 +3,14 @@ ghost use Rattle.std.specs.Prelude.{◌≡◌, ◌<◌, IfSome, bytes_eq, length
 ghost use Rattle.std.specs.List.{IsDistinct};
 ghost use Rattle.std.proofs.lemmas.Map.Keys.{IsDistinct-prop};
 ghost use Rattle.indexmap.specs.IndexMap.{set_value_at};
-ghost use Rattle.rn_pattern.specs.Tree.{Tree};
+ghost use Rattle.rn_pattern.specs.Tree.{Tree, empty};
 ghost use Rattle.rn_pattern.specs.View.{pattern_view};
 ghost use Rattle.rn_text.specs.Texts.{Text};
 ghost use Rattle.rn_assemble.specs.DefinitionsView.{definitions_view};
 ghost use Rattle.rn_assemble.specs.SettlingOrder.{number_of};
 
 use rn_pattern::Pattern;
+use std::mem;
 
 /// Definitions in a list, each of a name of its own.
 #[derive(Drop)]
@@ -56,6 +57,17 @@ impl DefinitionList {
             }
         }
         None
+    }
+
+    /// Takes the body of the definition with a number, and leaves `empty` in its place.
+    pub fn take(&mut self, number: usize) -> Pattern
+        requires { number < length self.old.entries.items }
+        ensures body { (d : Text × Tree) → pattern_view result
+            ≡ (slice_index_or (definitions_view self.old.entries.items) number d).1 }
+        ensures left { definitions_view self.new.entries.items
+            ≡ set_value_at (definitions_view self.old.entries.items) number empty }
+    {
+        mem::replace(&mut self.entries[number].1, Pattern::Empty)
     }
 
     /// Puts a body in the place of that of the definition with a number.
