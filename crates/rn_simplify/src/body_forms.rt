@@ -5,12 +5,12 @@ ghost use Rattle.rn_assemble.specs.ListedView.{definitions_view, listed_view};
 ghost use Rattle.rn_pattern.specs.Tree.{Tree};
 ghost use Rattle.rn_text.specs.Texts.{Text};
 ghost use Rattle.rn_pattern.specs.View.{pattern_view};
-ghost use Rattle.rn_simplify.specs.inside.Contents.{form_or};
 ghost use Rattle.rn_simplify.specs.inside.FormKinds.{settled_form};
 ghost use Rattle.rn_simplify.specs.inside.Repeats.{AreFirstsOf};
 
 use crate::definition_numbers::Likely;
 use crate::normalising::stored_body_form;
+use crate::owned_forms::owned_form;
 use crate::settled_definitions::SettledDefinitions;
 use crate::tree_forms::{form_of, form_or_copy};
 use rn_assemble::Listed;
@@ -29,29 +29,45 @@ pub(crate) fn body_form(
     ensures { IfOk result (λ p. pattern_view p ≡ settled_form settled.now
         (pattern_view body.now)) }
 {
-    let made = changed_form(alloc, settled, likely, body, firsts)?;
+    if !firsts.is_empty() {
+        return form_by_store(alloc, settled, body, firsts);
+    }
+    let made = form_of(alloc, settled, likely, body)?;
     form_or_copy(alloc, made, body)
 }
 
-/// The canonical form of a body, or `None` where that is the body itself. One with a member that stands in its list
-/// before is made in a store of its own, where members that are alike have one id.
-pub(crate) fn changed_form(
+/// The canonical form of a body that is given up.
+pub(crate) fn owned_body_form(
     alloc: Global,
     settled: &SettledDefinitions<'_>,
     likely: &mut Likely<'_>,
-    body: &Pattern,
+    body: Pattern,
     firsts: &[u32],
-) -> Result<Option<Pattern>, AllocError>
-    requires { AreFirstsOf firsts.now body.now }
-    ensures { IfOk result (λ made. form_or made (pattern_view body.now)
-        ≡ settled_form settled.now (pattern_view body.now)) }
+) -> Result<Pattern, AllocError>
+    requires { AreFirstsOf firsts.now body }
+    ensures { IfOk result (λ p. pattern_view p ≡ settled_form settled.now (pattern_view body)) }
 {
     if firsts.is_empty() {
-        return form_of(alloc, settled, likely, body);
+        owned_form(alloc, settled, likely, body)
+    } else {
+        form_by_store(alloc, settled, &body, firsts)
     }
+}
+
+/// The canonical form of a body with a member that stands in its list before. It is made in a store of its own, where
+/// members that are alike have one id.
+fn form_by_store(
+    alloc: Global,
+    settled: &SettledDefinitions<'_>,
+    body: &Pattern,
+    firsts: &[u32],
+) -> Result<Pattern, AllocError>
+    requires { AreFirstsOf firsts.now body.now }
+    ensures { IfOk result (λ p. pattern_view p ≡ settled_form settled.now
+        (pattern_view body.now)) }
+{
     let mut store = Interned::with_seed(alloc, *settled.seed);
-    let form = stored_body_form(alloc, &mut store, settled, body, firsts)?;
-    Ok(Some(form))
+    stored_body_form(alloc, &mut store, settled, body, firsts)
 }
 
 /// The canonical forms of the definitions, in their order.

@@ -9,11 +9,10 @@ ghost use Rattle.rn_pattern.specs.Tree.{Tree};
 ghost use Rattle.rn_text.specs.Texts.{Text};
 ghost use Rattle.rn_pattern.specs.View.{pattern_view};
 ghost use Rattle.rn_simplify.specs.Settling.{IsSettling};
-ghost use Rattle.rn_simplify.specs.inside.Contents.{form_or};
 ghost use Rattle.rn_simplify.specs.inside.DefinitionNumbers.{reference_numbers, rows_by};
 ghost use Rattle.rn_simplify.specs.inside.FormKinds.{becomes_by, settled_definitions};
 
-use crate::body_forms::{body_form, changed_form};
+use crate::body_forms::{body_form, owned_body_form};
 use crate::definition_numbers::Likely;
 use crate::evaluation::settle_all;
 use crate::form_kind::FormKind;
@@ -43,8 +42,8 @@ pub(crate) fn settled_start(
     Ok((form, settled.kinds))
 }
 
-/// Puts the form of each definition in the place of its body, which is given up as soon as the form is made. Answers the
-/// definitions that each form refers to, which are found as soon as it is made.
+/// Puts the form of each definition in the place of its body, out of which it is made. Answers the definitions that each
+/// form refers to, which are found as soon as it is made.
 pub(crate) fn form_definitions(
     alloc: Global,
     definitions: &mut DefinitionList,
@@ -65,7 +64,7 @@ pub(crate) fn form_definitions(
     let mut row = Vec::new(alloc);
     for number in 0..definitions.len() {
         let first_members = firsts_at(firsts, number);
-        let (made, kept) = form_at(
+        kinds = form_at(
             alloc,
             definitions,
             likely,
@@ -74,23 +73,9 @@ pub(crate) fn form_definitions(
             number,
             first_members,
         )?;
-        kinds = kept;
-        put_form(definitions, number, made);
         push_references(definitions, likely, number, &mut row, &mut rows)?;
     }
     Ok(rows)
-}
-
-/// Puts the form of the definition with a number in the place of its body, if it is another.
-fn put_form(definitions: &mut DefinitionList, number: usize, made: Option<Pattern>)
-    requires { number < length definitions.old.entries.items }
-    ensures { (d : Text × Tree) → definitions_view definitions.new.entries.items
-        ≡ set_value_at (definitions_view definitions.old.entries.items) number (form_or made
-        (slice_index_or (definitions_view definitions.old.entries.items) number d).1) }
-{
-    if let Some(form) = made {
-        definitions.put(number, form);
-    }
 }
 
 /// Adds the row of the definitions that the one with a number refers to. What `row` held is lost.
@@ -122,26 +107,28 @@ fn firsts_at(firsts: &[Vec<u32>], number: usize) -> &[u32]
     }
 }
 
-/// The form of the definition with a number, or `None` where that is its body. The kinds are handed back with it.
+/// Puts the form of the definition with a number in the place of its body, out of which it is made. The kinds are handed
+/// back.
 fn form_at(
     alloc: Global,
-    definitions: &DefinitionList,
+    definitions: &mut DefinitionList,
     likely: &LikelyReferences,
     seed: &Seed,
     kinds: Vec<FormKind>,
     number: usize,
     firsts: &[u32],
-) -> Result<(Option<Pattern>, Vec<FormKind>), AllocError>
-    requires within { number < length definitions.now.entries.items }
-    requires sized { length kinds.items ≡ length definitions.now.entries.items }
+) -> Result<Vec<FormKind>, AllocError>
+    requires within { number < length definitions.old.entries.items }
+    requires sized { length kinds.items ≡ length definitions.old.entries.items }
     requires firsts { (d : Text × Tree) → AreFirsts firsts.now (joined_members
-        (slice_index_or (definitions_view definitions.now.entries.items) number d).1) }
-    ensures made { IfOk result (λ r. (d : Text × Tree) → form_or r.0
-        (slice_index_or (definitions_view definitions.now.entries.items) number d).1
-        ≡ canonical (becomes_by (definitions_view definitions.now.entries.items) kinds.items)
-        (slice_index_or (definitions_view definitions.now.entries.items) number d).1) }
-    ensures kept { IfOk result (λ r. r.1.items ≡ kinds.items) }
+        (slice_index_or (definitions_view definitions.old.entries.items) number d).1) }
+    ensures put { OnOk result ((d : Text × Tree) → definitions_view definitions.new.entries.items
+        ≡ set_value_at (definitions_view definitions.old.entries.items) number
+        (canonical (becomes_by (definitions_view definitions.old.entries.items) kinds.items)
+        (slice_index_or (definitions_view definitions.old.entries.items) number d).1)) }
+    ensures kept { IfOk result (λ v. v.items ≡ kinds.items) }
 {
+    let body = definitions.take(number);
     let settled = SettledDefinitions {
         definitions,
         kinds,
@@ -149,7 +136,8 @@ fn form_at(
         seed,
     };
     let mut numbers = Likely::of_definition(likely, number);
-    let body = definitions.body_of(number);
-    let made = changed_form(alloc, &settled, &mut numbers, body, firsts)?;
-    Ok((made, settled.kinds))
+    let form = owned_body_form(alloc, &settled, &mut numbers, body, firsts)?;
+    let kinds = settled.kinds;
+    definitions.put(number, form);
+    Ok(kinds)
 }

@@ -18,6 +18,7 @@ mod list_kind;
 mod mentions;
 pub mod normal;
 pub mod normalising;
+mod owned_forms;
 mod pattern_text;
 pub mod printing;
 mod reachable;

@@ -1,8 +1,8 @@
 // The kinds of lists of patterns (RELAX NG 2001, 4.12).
-ghost use Rattle.std.specs.Prelude.{◌≡◌, IfOk, map};
+ghost use Rattle.std.specs.Prelude.{◌≡◌, ◌∷◌, [], IfOk, IsFalse, map};
 ghost use Rattle.rn_pattern.specs.Store.{KeepsIds, StandsFor, KnowsAll};
 ghost use Rattle.rn_pattern.specs.View.{pattern_view, shared_view};
-ghost use Rattle.rn_simplify.specs.inside.ListParts.{members_step};
+ghost use Rattle.rn_simplify.specs.inside.ListParts.{members_step, parts_of};
 
 use rn_pattern::steps::{choice_over, group_over, interleave_over};
 use rn_pattern::{Pattern, Patterns};
@@ -18,6 +18,18 @@ pub(crate) enum ListKind {
 }
 
 impl ListKind {
+    /// Whether the pattern is a list of this kind.
+    pub(crate) fn is_kind_of(self, pattern: &Pattern) -> bool
+        ensures { IsFalse result
+            → parts_of self (pattern_view pattern.now) ≡ pattern_view pattern.now ∷ [] }
+    {
+        match self {
+            ListKind::Group => matches!(pattern, Pattern::Group(_)),
+            ListKind::Interleave => matches!(pattern, Pattern::Interleave(_)),
+            ListKind::Choice => matches!(pattern, Pattern::Choice(_)),
+        }
+    }
+
     /// The id of the canonical form of a list of this kind, by the ids of the canonical forms of its parts.
     pub(crate) fn form_over<P: Patterns>(
         self,

@@ -149,7 +149,7 @@ fn stays_over_content(pattern: &Pattern) -> bool
 }
 
 /// Whether the pattern is `notAllowed`.
-fn is_not_allowed(pattern: &Pattern) -> bool
+pub(crate) fn is_not_allowed(pattern: &Pattern) -> bool
     ensures { result ≡ form.is_not_allowed (pattern_view pattern.now) }
 {
     matches!(pattern, Pattern::NotAllowed)
@@ -166,7 +166,7 @@ fn may_repeat(pattern: &Pattern) -> bool
 }
 
 /// Whether the name class has no other in it, so that it is in canonical form.
-fn is_single_class(class: &NameClass) -> bool
+pub(crate) fn is_single_class(class: &NameClass) -> bool
     ensures { IsTrue result
         → form.canonical_name (name_class_view class.now) ≡ name_class_view class.now }
 {
@@ -200,7 +200,7 @@ fn form_over_content(
 /// The canonical form of a list of the members. All parts of it are put in order at once, however deep lists of its
 /// kind are within one another.
 #[cycle(form_of)]
-fn list_form(
+pub(crate) fn list_form(
     alloc: Global,
     settled: &SettledDefinitions<'_>,
     likely: &mut Likely<'_>,

@@ -26,11 +26,17 @@ size_set (d ∷ ds) (suc n) p = ap suc (size_set ds n p)
 pub size_put : (es new : List (String Global × Pattern)) (n : ℕ) (p : Tree) → definitions_view new ≡ set_value_at (definitions_view es) n p → length new ≡ length es
 size_put es new n p put = sym (size_of_view new) ∙ ap length put ∙ size_set (definitions_view es) n p ∙ size_of_view es
 
--- a definition that gets its own body stays
-pub set_same : (ds : List (Text × Tree)) (n : ℕ) (d : Text × Tree) → n < length ds → set_value_at ds n (get_or ds n d).1 ≡ ds
-set_same [] n d l = absurd (omega (arith, l))
-set_same (e ∷ es) zero d l = refl
-set_same (e ∷ es) (suc n) d l = ap (λ fs. e ∷ fs) (set_same es n d (omega (arith, l)))
+-- the last body that a definition got is the one that it has
+pub set_twice : (ds : List (Text × Tree)) (n : ℕ) (p q : Tree) → set_value_at (set_value_at ds n p) n q ≡ set_value_at ds n q
+set_twice [] n p q = refl
+set_twice (d ∷ ds) zero p q = refl
+set_twice (d ∷ ds) (suc n) p q = ap (λ es. d ∷ es) (set_twice ds n p q)
+
+-- a definition that gets another body keeps its name
+pub names_set : (ds : List (Text × Tree)) (n : ℕ) (p : Tree) → map (λ (d : Text × Tree). d.0) (set_value_at ds n p) ≡ map (λ (d : Text × Tree). d.0) ds
+names_set [] n p = refl
+names_set (d ∷ ds) zero p = refl
+names_set (d ∷ ds) (suc n) p = ap (λ xs. d.0 ∷ xs) (names_set ds n p)
 
 module _ (form : Tree → Tree) where
   -- the forms of the first n, and the others as they are

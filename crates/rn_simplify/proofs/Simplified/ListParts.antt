@@ -83,3 +83,14 @@ parts_more f kind members n r old now new h is e g =
     ∙ append_assoc old (map f (parts kind (trees_of before))) (map f (parts_of kind (shared_view r)))
     ∙ ap (λ xs. old ++ xs) (sym (map-append f (parts kind (trees_of before)) (parts_of kind (shared_view r)))
     ∙ ap (map f) (sym (parts_push kind before (shared_view r)) ∙ ap (λ ps. parts kind (trees_of ps)) (sym taken)))
+
+-- the parts of one more member, which is a part itself
+pub whole_more : (kind : ListKind) (members : List (Rc Pattern Global)) (n : ℕ) (r : Rc Pattern Global) → n < length members → r ≡ get_or members n r
+    → parts kind (shared_trees (take n members)) ≡ map shared_view (take n members)
+    → parts_of kind (shared_view r) ≡ shared_view r ∷ []
+    → parts kind (shared_trees (take (n + 1) members)) ≡ map shared_view (take (n + 1) members)
+whole_more kind members n r h is whole alone =
+    let before = map shared_view (take n members) in
+    let taken : map shared_view (take (n + 1) members) ≡ before ++ shared_view r ∷ [] =
+    ap (map shared_view) (take_more members n r h ∙ ap (λ x. take n members ++ x ∷ []) (sym is)) ∙ map-append shared_view (take n members) (r ∷ []) in
+    ap (λ ps. parts kind (trees_of ps)) taken ∙ parts_push kind before (shared_view r) ∙ (λ i. whole i ++ alone i) ∙ sym taken

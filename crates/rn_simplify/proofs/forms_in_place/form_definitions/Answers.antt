@@ -33,15 +33,10 @@ form_at-requires-clause-firsts c = λ d.
     subst (λ p. AreFirsts c.firsts_at-first_members.result.now (joined_members p)) (sym (ap (λ (e : Text × Tree). e.1) same))
     (subst (λ is. AreFirsts is (joined_members (get_or ds n d).1)) (sym c.firsts_at-first_members.ensures) (c.requires.firsts n d (omega (arith, size_of_view c.args.definitions.now.entries.items))))
 
-pub put_form-requires : goal.put_form-requires
-put_form-requires c =
-    let t = canonical (becomes_by (definitions_view c.args.definitions.now.entries.items) c.args.kinds.items) in
-    omega (arith, entries_first t c.loop-number.number c.loop-number.definitions.entries.items c.args.definitions.now.entries.items c.loop-number.invariant.formed)
-
 pub push_references-requires : goal.push_references-requires
 push_references-requires c =
     let t = canonical (becomes_by (definitions_view c.args.definitions.now.entries.items) c.args.kinds.items) in
-    omega (arith, size_put c.loop-number.definitions.entries.items c.put_form.new.definitions.entries.items c.loop-number.number _ (c.put_form.ensures nothing), entries_first t c.loop-number.number c.loop-number.definitions.entries.items c.args.definitions.now.entries.items c.loop-number.invariant.formed)
+    omega (arith, size_put c.loop-number.definitions.entries.items c.form_at.new.definitions.entries.items c.loop-number.number _ (c.in_ok-kinds.ensures.put nothing), entries_first t c.loop-number.number c.loop-number.definitions.entries.items c.args.definitions.now.entries.items c.loop-number.invariant.formed)
 
 pub loop-number-preserved : goal.loop-number-preserved
 loop-number-preserved c =
@@ -54,10 +49,10 @@ loop-number-preserved c =
     let becomes : becomes_by (definitions_view es) c.loop-number.kinds.items ≡ becomes_by ds kinds =
     ap (becomes_by (definitions_view es)) inv.kinds ∙ becomes_same ds (definitions_view es) kinds (ap (map (λ (d : Text × Tree). d.0)) inv.formed ∙ names_first t n ds) in
     let body : get_or (definitions_view es) n nothing ≡ get_or ds n nothing = ap (λ fs. get_or fs n nothing) inv.formed ∙ body_first t n ds nothing in
-    let made = c.in_ok-made.ensures.made nothing ∙ (λ i. canonical (becomes i) (body i).1) in
-    let formed = put_first t n es c.put_form.new.definitions.entries.items ds _ (omega (arith, size_of_view c.args.definitions.now.entries.items)) inv.formed made (c.put_form.ensures nothing) in
+    let made : canonical (becomes_by (definitions_view es) c.loop-number.kinds.items) (get_or (definitions_view es) n nothing).1 ≡ t (get_or ds n nothing).1 = λ i. canonical (becomes i) (body i).1 in
+    let formed = put_first t n es c.form_at.new.definitions.entries.items ds _ (omega (arith, size_of_view c.args.definitions.now.entries.items)) inv.formed made (c.in_ok-kinds.ensures.put nothing) in
     record {
-      kinds = c.in_ok-made.ensures.kept ∙ inv.kinds;
+      kinds = c.in_ok-kinds.ensures.kept ∙ inv.kinds;
       formed = formed;
       rows = rows_formed_more t ds n _ (rows_of c.loop-number.rows) (rows_of c.push_references.new.rows) (omega (arith, size_of_view c.args.definitions.now.entries.items)) formed inv.rows (c.in_ok-push_references.ensures nothing);
     }
