@@ -10,4 +10,5 @@ pub mod FinishedText
 pub mod OpenAtOnce
 pub mod Members
 pub mod GatheredTexts
+pub mod MovedDefinitions
 pub mod Views

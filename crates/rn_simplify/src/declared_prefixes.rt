@@ -6,7 +6,6 @@ ghost use Rattle.rn_assemble.specs.ShortTexts.{IsTable, long_uri, short_texts};
 ghost use Rattle.rn_simplify.specs.NormalView.{normal_view};
 ghost use Rattle.rn_simplify.specs.inside.Writes.{declaration_lines, prefixes_view, Writes, WritesBytes, none};
 
-use crate::mentions::Mentions;
 use crate::normal::Normal;
 use crate::writer::Writer;
 use indexmap::IndexSet;
@@ -20,16 +19,16 @@ use std::collections::BTreeSet;
 /// The texts without the empty one and the one that has a prefix of its own, in the order of their bytes.
 fn declared_texts(
     alloc: Global,
-    texts: BTreeSet<String>,
+    texts: &BTreeSet<String>,
     known: &str,
 ) -> Result<IndexSet<String, Seed>, AllocError>
     ensures { IfOk result (λ r. map (λ u. string_bytes u) r.keys
-        ≡ filter (is_other known.now) (map (λ u. string_bytes u) texts.keys)) }
+        ≡ filter (is_other known.now) (map (λ u. string_bytes u) texts.now.keys)) }
 {
-    let mut rest = IndexSet::with_hasher(alloc, seed_of(&texts));
+    let mut rest = IndexSet::with_hasher(alloc, seed_of(texts));
     for text in texts {
         if !text.is_empty() && text.as_str() != known {
-            rest.insert(text)?;
+            rest.insert(text.clone()?)?;
         }
     }
     Ok(rest)
@@ -91,11 +90,10 @@ impl Prefixes {
         ensures empty { IfOk result (λ f. f.empty_namespace
             ≡ has_empty_ns_name (normal_view normal.now)) }
     {
-        let mentions = Mentions::of(alloc, normal)?;
         Ok(Prefixes {
-            namespaces: declared_texts(alloc, mentions.namespaces, XML_URI)?,
-            libraries: declared_texts(alloc, mentions.libraries, XSD_URI)?,
-            empty_namespace: mentions.has_empty_ns_name,
+            namespaces: declared_texts(alloc, &normal.mentions.namespaces, XML_URI)?,
+            libraries: declared_texts(alloc, &normal.mentions.libraries, XSD_URI)?,
+            empty_namespace: normal.mentions.has_empty_ns_name,
         })
     }
 

@@ -2,11 +2,9 @@
 ghost use Rattle.std.specs.Prelude.{◌≡◌, ◌∷◌, [], IfOk, OnOk, map};
 ghost use Rattle.rn_pattern.specs.Tree.{name_trees_of};
 ghost use Rattle.rn_pattern.specs.View.{name_class_view, pattern_view, shared_trees};
-ghost use Rattle.rn_simplify.specs.NormalView.{definitions_view, normal_view};
-ghost use Rattle.rn_simplify.specs.Spelling.{has_empty_ns_name};
-ghost use Rattle.rn_simplify.specs.inside.Gathers.{GathersTexts, Gathers, IsGathered, by_ns_name, by_definitions, by_grammar, by_library, by_name, by_names, by_tree, by_trees};
+ghost use Rattle.rn_assemble.specs.GrammarView.{definitions_view};
+ghost use Rattle.rn_simplify.specs.inside.Gathers.{GathersTexts, Gathers, by_ns_name, by_definitions, by_library, by_name, by_names, by_tree, by_trees, gathered, mentions_view};
 
-use crate::normal::Normal;
 use rn_pattern::{NameClass, Pattern};
 use std::alloc::{AllocError, Global};
 use std::collections::BTreeSet;
@@ -22,21 +20,24 @@ pub(crate) struct Mentions {
 }
 
 impl Mentions {
-    pub(crate) fn of(alloc: Global, normal: &Normal) -> Result<Mentions, AllocError>
-        ensures namespaces { IfOk result
-            (λ m. IsGathered (by_grammar (normal_view normal.now)).namespaces m.namespaces) }
-        ensures ns_name { IfOk result (λ m. m.has_empty_ns_name
-            ≡ has_empty_ns_name (normal_view normal.now)) }
-        ensures libraries { IfOk result
-            (λ m. IsGathered (by_grammar (normal_view normal.now)).libraries m.libraries) }
+    /// What a start and definitions mention.
+    pub(crate) fn of(
+        alloc: Global,
+        start: &Pattern,
+        defs: &[(String, Pattern)],
+    ) -> Result<Mentions, AllocError>
+        ensures { IfOk result (λ m. mentions_view m ≡ gathered (record {
+          start = pattern_view start.now;
+          definitions = definitions_view defs.now;
+        })) }
     {
         let mut mentions = Mentions {
             namespaces: BTreeSet::new(alloc),
             libraries: BTreeSet::new(alloc),
             has_empty_ns_name: false,
         };
-        mentions.add_pattern(alloc, &normal.start)?;
-        mentions.add_definitions(alloc, normal.defs.as_slice())?;
+        mentions.add_pattern(alloc, start)?;
+        mentions.add_definitions(alloc, defs)?;
         Ok(mentions)
     }
 

@@ -13,6 +13,7 @@ ghost use Rattle.rn_pattern.specs.View.{pattern_view};
 ghost use Rattle.rn_simplify.specs.NormalView.{normal_view};
 ghost use Rattle.rn_simplify.specs.NormalParts.{parts_view};
 ghost use Rattle.rn_simplify.specs.inside.FormKinds.{settled_form};
+ghost use Rattle.rn_simplify.specs.inside.Gathers.{gathered, mentions_view};
 ghost use Rattle.rn_simplify.specs.inside.Repeats.{AreFirstsOf};
 
 use crate::body_forms::{body_form, definition_forms};
@@ -20,8 +21,9 @@ use crate::definition_numbers::Likely;
 use crate::evaluation::settle_all;
 use crate::forms_in_place::{form_definitions, settled_start};
 use crate::joined_bodies::canonical_body;
+use crate::mentions::Mentions;
 use crate::normal::Normal;
-use crate::reachable::{prune_forms, prune_list};
+use crate::reachable::{Pruned, prune_forms, prune_list};
 use crate::rebuilding::rebuild;
 use crate::settled_definitions::SettledDefinitions;
 use rn_assemble::{Grammar, Listed, ListedGrammar, ListedParts};
@@ -70,21 +72,43 @@ pub fn into_normal(alloc: Global, grammar: ListedGrammar) -> Result<Normal, Allo
     ensures documents { IfOk result
         (λ n. ValidAlike (listed_grammar_view grammar) (normal_view n)) }
 {
-    let (start, defs) = parts_in_place(alloc, grammar)?;
-    Ok(Normal { start, defs })
+    let NormalParts {
+        start,
+        defs,
+        mentions,
+    } = parts_in_place(alloc, grammar)?;
+    Ok(Normal {
+        start,
+        defs,
+        mentions,
+    })
 }
 
-/// A start, and definitions by their names.
-type NormalParts = (Pattern, Vec<(String, Pattern)>);
+/// A start, definitions by their names, and what they mention.
+#[derive(Drop)]
+struct NormalParts {
+    start: Pattern,
+    defs: Vec<(String, Pattern)>,
+    mentions: Mentions,
+    ghost known: { mentions_view mentions ≡ gathered (parts_view start defs.items) },
+}
 
 /// The canonical grammar of these parts, which are those of the grammar's.
 fn normal_of(grammar: &Grammar, parts: NormalParts) -> Normal
-    requires { IsCanonicalOf (grammar_view grammar.now) (parts_view parts.0 parts.1.items) }
+    requires { IsCanonicalOf (grammar_view grammar.now) (parts_view parts.start parts.defs.items) }
     ensures canonical { IsCanonicalOf (grammar_view grammar.now) (normal_view result) }
     ensures documents { ValidAlike (grammar_view grammar.now) (normal_view result) }
 {
-    let (start, defs) = parts;
-    Normal { start, defs }
+    let NormalParts {
+        start,
+        defs,
+        mentions,
+    } = parts;
+    Normal {
+        start,
+        defs,
+        mentions,
+    }
 }
 
 /// The canonical start and the canonical definitions that it reaches.
@@ -94,7 +118,7 @@ fn stored_parts<P: Patterns>(
     store: &mut P,
 ) -> Result<NormalParts, AllocError>
     ensures canonical { IfOk result (λ parts. IsCanonicalOf (listed_view grammar.now)
-        (parts_view parts.0 parts.1.items)) }
+        (parts_view parts.start parts.defs.items)) }
     ensures kept { KeepsIds P.knows P.tree_of store.old store.new }
 {
     let settled = settle_all(alloc, grammar)?;
@@ -106,14 +130,18 @@ fn stored_parts<P: Patterns>(
         grammar.start_firsts(),
     )?;
     let forms = stored_definition_forms(alloc, store, &settled, grammar)?;
-    let defs = prune_forms(alloc, &settled, &start, forms)?;
-    Ok((start, defs))
+    let Pruned { defs, mentions } = prune_forms(alloc, &settled, &start, forms)?;
+    Ok(NormalParts {
+        start,
+        defs,
+        mentions,
+    })
 }
 
 /// The canonical start and the canonical definitions that it reaches, each made by itself.
 fn canonical_parts(alloc: Global, grammar: &Listed<'_>) -> Result<NormalParts, AllocError>
     ensures { IfOk result (λ parts. IsCanonicalOf (listed_view grammar.now)
-        (parts_view parts.0 parts.1.items)) }
+        (parts_view parts.start parts.defs.items)) }
 {
     let settled = settle_all(alloc, grammar)?;
     let start = body_form(
@@ -124,14 +152,18 @@ fn canonical_parts(alloc: Global, grammar: &Listed<'_>) -> Result<NormalParts, A
         grammar.start_firsts(),
     )?;
     let forms = definition_forms(alloc, &settled, grammar)?;
-    let defs = prune_forms(alloc, &settled, &start, forms)?;
-    Ok((start, defs))
+    let Pruned { defs, mentions } = prune_forms(alloc, &settled, &start, forms)?;
+    Ok(NormalParts {
+        start,
+        defs,
+        mentions,
+    })
 }
 
 /// The canonical start and the canonical definitions that it reaches, each made in the place of its body.
 fn parts_in_place(alloc: Global, grammar: ListedGrammar) -> Result<NormalParts, AllocError>
     ensures { IfOk result (λ parts. IsCanonicalOf (listed_grammar_view grammar)
-        (parts_view parts.0 parts.1.items)) }
+        (parts_view parts.start parts.defs.items)) }
 {
     let (start, kinds) = settled_start(alloc, &grammar.listed())?;
     let ListedParts {
@@ -142,8 +174,12 @@ fn parts_in_place(alloc: Global, grammar: ListedGrammar) -> Result<NormalParts, 
         ..
     } = grammar.into_parts();
     let rows = form_definitions(alloc, &mut definitions, &likely, &seed, kinds, &firsts)?;
-    let defs = prune_list(alloc, &likely, &start, definitions, &rows)?;
-    Ok((start, defs))
+    let Pruned { defs, mentions } = prune_list(alloc, &likely, &start, definitions, &rows)?;
+    Ok(NormalParts {
+        start,
+        defs,
+        mentions,
+    })
 }
 
 /// The canonical form of a body, built in the store. The only error is want of memory.

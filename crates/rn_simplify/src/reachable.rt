@@ -7,16 +7,25 @@ ghost use Rattle.rn_assemble.specs.GrammarView.{definitions_view};
 ghost use Rattle.rn_pattern.specs.Reached.{IsPruned};
 ghost use Rattle.rn_pattern.specs.Tree.{Tree};
 ghost use Rattle.rn_pattern.specs.View.{pattern_view};
+ghost use Rattle.rn_simplify.specs.inside.Gathers.{gathered, mentions_view};
 ghost use Rattle.rn_simplify.specs.inside.MarkedElements.{marked_elements};
 ghost use Rattle.rn_simplify.specs.inside.DefinitionNumbers.{MarksReached, reference_numbers, rows_by};
 
 use crate::definition_numbers::Likely;
+use crate::mentions::Mentions;
 use crate::reference_numbers::referred_numbers;
 use crate::settled_definitions::SettledDefinitions;
 use rn_assemble::{DefinitionList, LikelyReferences};
 use rn_pattern::graph::reached_nodes;
 use rn_pattern::{Pattern, Rows};
 use std::alloc::{AllocError, Global};
+
+/// The forms that are reached, in the order of their names, and what they and the start mention.
+#[derive(Drop)]
+pub(crate) struct Pruned {
+    pub(crate) defs: Vec<(String, Pattern)>,
+    pub(crate) mentions: Mentions,
+}
 
 /// The forms that the start reaches, in the order of their names. The forms have the names of the definitions, in their
 /// order.
@@ -25,16 +34,18 @@ pub(crate) fn prune_forms(
     settled: &SettledDefinitions<'_>,
     start: &Pattern,
     forms: Vec<(String, Pattern)>,
-) -> Result<Vec<(String, Pattern)>, AllocError>
+) -> Result<Pruned, AllocError>
     requires named { map (λ d. d.0) (definitions_view forms.items)
         ≡ map (λ d. d.0) (definitions_view settled.now.definitions.now.entries.items) }
     requires distinct { IsDistinct bytes_eq (map (λ d. d.0) (definitions_view forms.items)) }
-    ensures { IfOk result (λ v. IsPruned
+    ensures pruned { IfOk result (λ r. IsPruned
         (record { start = pattern_view start.now; definitions = definitions_view forms.items })
-        (record { start = pattern_view start.now; definitions = definitions_view v.items })) }
+        (record { start = pattern_view start.now; definitions = definitions_view r.defs.items })) }
+    ensures known { IfOk result (λ r. mentions_view r.mentions ≡ gathered
+        (record { start = pattern_view start.now; definitions = definitions_view r.defs.items })) }
 {
     let is_reached = reached_forms(alloc, settled, start, &forms)?;
-    sorted_marked(forms, &is_reached)
+    sorted_marked(alloc, start, forms, &is_reached)
 }
 
 /// The forms in the list that the start reaches, in the order of their names. The definitions that each form refers to
@@ -45,34 +56,44 @@ pub(crate) fn prune_list(
     start: &Pattern,
     definitions: DefinitionList,
     rows: &Rows,
-) -> Result<Vec<(String, Pattern)>, AllocError>
+) -> Result<Pruned, AllocError>
     requires { rows_of rows.now ≡ rows_by (definitions_view definitions.entries.items)
         (definitions_view definitions.entries.items) }
-    ensures { IfOk result (λ v. IsPruned
+    ensures pruned { IfOk result (λ r. IsPruned
         (record {
           start = pattern_view start.now;
           definitions = definitions_view definitions.entries.items;
         })
-        (record { start = pattern_view start.now; definitions = definitions_view v.items })) }
+        (record { start = pattern_view start.now; definitions = definitions_view r.defs.items })) }
+    ensures known { IfOk result (λ r. mentions_view r.mentions ≡ gathered
+        (record { start = pattern_view start.now; definitions = definitions_view r.defs.items })) }
 {
     let is_reached = reached_in_list(alloc, likely, start, &definitions, rows)?;
-    sorted_marked(definitions.into_entries(), &is_reached)
+    sorted_marked(alloc, start, definitions.into_entries(), &is_reached)
 }
 
-/// The forms that are marked, in the order of their names.
+/// The forms that are marked, in the order of their names. What they mention is gathered while they stand as they came.
 fn sorted_marked(
+    alloc: Global,
+    start: &Pattern,
     mut forms: Vec<(String, Pattern)>,
     marks: &[bool],
-) -> Result<Vec<(String, Pattern)>, AllocError>
+) -> Result<Pruned, AllocError>
     requires { IsDistinct bytes_eq (map (λ d. d.0) (definitions_view forms.items)) }
-    ensures { IfOk result (λ v. (p : Tree)
+    ensures pruned { IfOk result (λ r. (p : Tree)
         → MarksReached (record { start = p; definitions = definitions_view forms.items }) marks.now
         → IsPruned (record { start = p; definitions = definitions_view forms.items })
-        (record { start = p; definitions = definitions_view v.items })) }
+        (record { start = p; definitions = definitions_view r.defs.items })) }
+    ensures known { IfOk result (λ r. mentions_view r.mentions ≡ gathered
+        (record { start = pattern_view start.now; definitions = definitions_view r.defs.items })) }
 {
     keep_marked(&mut forms, marks);
+    let mentions = Mentions::of(alloc, start, &forms)?;
     forms.sort_by(|a: &(String, Pattern), b: &(String, Pattern)| a.0.cmp(&b.0))?;
-    Ok(forms)
+    Ok(Pruned {
+        defs: forms,
+        mentions,
+    })
 }
 
 /// For each form in the list, whether the start reaches it.

@@ -1,7 +1,8 @@
 -- Members that stand in a list before: what is asked of the members stays without them.
-use Rattle.std.proofs.Common.{◌≡◌, ⊎_elim, List, [], ◌∷◌, ◌++◌, ◌+◌, ◌<◌, ◌≤◌, ℕ, Some, length, map, take, get_or, flat_map, refl, sym, ap, ◌∙◌, subst, arith, Less, Greater}
+use Rattle.std.proofs.Common.{◌≡◌, ⊎_elim, List, [], ◌∷◌, ◌++◌, ◌+◌, ◌<◌, ◌≤◌, ℕ, Some, length, map, take, get_or, flat_map, refl, sym, ap, ◌∙◌, subst, arith, Ordering, Less, Equal, Greater}
 use Rattle.std.specs.Prelude.{Contains, Vec, slice_get}
 use Rattle.std.specs.Ordering.{ordering_reverse}
+use Rattle.std.specs.Cmp.{IsTotalOrder}
 use Rattle.std.specs.declared.alloc.Global.{Global}
 use Rattle.std.specs.declared.rc.Rc.{Rc}
 use Rattle.std.proofs.lemmas.List.{take_more, map-append, length-map, length-take-le, get_or-map, get_or-take, get_or_default}
@@ -203,14 +204,16 @@ pub all_canonical : (s : Text → Tree) (ps : List Tree) → canonical_all s (tr
 all_canonical s [] = refl
 all_canonical s (p ∷ ps) = ap (λ xs. canonical s p ∷ xs) (all_canonical s ps)
 
-tree_no_less : (x y : Tree) → tree_cmp x y ≡ Less → ¬ (tree_cmp y x ≡ Less)
-tree_no_less x y h k = let e : Less ≡ Greater = sym h ∙ tree_cmp_total.antisymm x y ∙ ap ordering_reverse k in cc
+-- in order, and each once, lists that hold the same are one list
+module _ {X : Type 0} (R : X → X → Ordering) (total : IsTotalOrder R) (one : (x y : X) → R x y ≡ Equal → x ≡ y) where
+  no_less : (x y : X) → R x y ≡ Less → ¬ (R y x ≡ Less)
+  no_less x y h k = let e : Less ≡ Greater = sym h ∙ total.antisymm x y ∙ ap ordering_reverse k in cc
 
-sorted_once_same : (xs ys : List Tree) → HaveSameMembers xs ys → sorted_once tree_cmp xs ≡ sorted_once tree_cmp ys
-sorted_once_same xs ys h = one_list tree_cmp tree_no_less (sorted_once tree_cmp xs) (sorted_once tree_cmp ys)
-    (climbs_sorted_once tree_cmp tree_cmp_total tree_same xs) (climbs_sorted_once tree_cmp tree_cmp_total tree_same ys)
-    (λ x c. (sorted_once_members tree_cmp tree_same ys x).1 ((h x).0 ((sorted_once_members tree_cmp tree_same xs x).0 c)))
-    (λ x c. (sorted_once_members tree_cmp tree_same xs x).1 ((h x).1 ((sorted_once_members tree_cmp tree_same ys x).0 c)))
+  pub sorted_once_same : (xs ys : List X) → HaveSameMembers xs ys → sorted_once R xs ≡ sorted_once R ys
+  sorted_once_same xs ys h = one_list R no_less (sorted_once R xs) (sorted_once R ys)
+      (climbs_sorted_once R total one xs) (climbs_sorted_once R total one ys)
+      (λ x c. (sorted_once_members R one ys x).1 ((h x).0 ((sorted_once_members R one xs x).0 c)))
+      (λ x c. (sorted_once_members R one xs x).1 ((h x).1 ((sorted_once_members R one ys x).0 c)))
 
 parts_flat : (s : Text → Tree) (ps : List Tree) → flat_map alternatives (canonical_all s (trees_of ps)) ≡ flat_map (λ p. alternatives (canonical s p)) ps
 parts_flat s [] = refl
@@ -221,7 +224,7 @@ pub choice_same : (s : Text → Tree) (ps qs : List Tree) → HaveSameMembers ps
 choice_same s ps qs h =
     let f : Tree → List Tree = λ p. alternatives (canonical s p) in
     ap (node_of not_allowed choice)
-    (ap (sorted_once tree_cmp) (parts_flat s ps) ∙ sorted_once_same (flat_map f ps) (flat_map f qs) (flat_same f ps qs h) ∙ sym (ap (sorted_once tree_cmp) (parts_flat s qs)))
+    (ap (sorted_once tree_cmp) (parts_flat s ps) ∙ sorted_once_same tree_cmp tree_cmp_total tree_same (flat_map f ps) (flat_map f qs) (flat_same f ps qs h) ∙ sym (ap (sorted_once tree_cmp) (parts_flat s qs)))
 
 -- ---- ids of members, by those before
 

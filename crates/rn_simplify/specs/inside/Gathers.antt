@@ -8,7 +8,7 @@ use Rattle.rn_text.specs.Texts.{Text, text_cmp}
 use Rattle.rn_pattern.specs.Canonical.{sorted_once}
 use Rattle.rn_pattern.specs.Matching.{Grammar}
 use Rattle.rn_simplify.specs.declared.mentions.Mentions.{Mentions}
-use Rattle.rn_simplify.specs.Spelling.{name_uris, names_uris, mentions, grammar_namespaces, grammar_libraries, mentions_all}
+use Rattle.rn_simplify.specs.Spelling.{name_uris, names_uris, mentions, grammar_namespaces, grammar_libraries, has_empty_ns_name, mentions_all}
 
 -- the set has these texts, each once
 abbrev pub IsGathered : List Text → BTreeSet (String Global) → Type 0
@@ -77,15 +77,29 @@ by_definitions ds = record {
   libraries = flat_map (λ (d : Text × Tree). tree_libraries d.1) ds;
 }
 
-abbrev pub by_grammar : Grammar → Mentioned
-by_grammar g = record {
-  namespaces = grammar_namespaces false g;
-  ns_names = grammar_namespaces true g;
-  libraries = grammar_libraries g;
-}
-
 -- what is mentioned is gathered, in addition to what was
 pub record Gathers (m : Mentioned) (a b : Mentions) : Type 0 where
   pub namespaces : GathersTexts m.namespaces a.namespaces b.namespaces
   pub ns_names : b.has_empty_ns_name ≡ (a.has_empty_ns_name || list_any (bytes_eq []) m.ns_names)
   pub libraries : GathersTexts m.libraries a.libraries b.libraries
+
+-- what is gathered of a grammar: its namespaces and libraries in order, each once
+pub record Gathered : Type 0 where
+  pub namespaces : List Text
+  pub libraries : List Text
+  pub has_empty_ns_name : Bool
+
+-- what is gathered in the code
+abbrev pub mentions_view : Mentions → Gathered
+mentions_view m = record {
+  namespaces = map (λ u. string_bytes u) m.namespaces.keys;
+  libraries = map (λ u. string_bytes u) m.libraries.keys;
+  has_empty_ns_name = m.has_empty_ns_name;
+}
+
+abbrev pub gathered : Grammar → Gathered
+gathered g = record {
+  namespaces = sorted_once text_cmp (grammar_namespaces false g);
+  libraries = sorted_once text_cmp (grammar_libraries g);
+  has_empty_ns_name = has_empty_ns_name g;
+}

@@ -10,7 +10,7 @@ pub loop-text-init : goal.loop-text-init
 loop-text-init c =
     let none = c.with_hasher-rest.ensures.empty in
     let all = c.into_iter-text-iterator.ensures.into_iter_gives in
-    let apart = keys_apart c.args.texts.keys all.4 in
+    let apart = keys_apart c.args.texts.now.keys all.4 in
     record {
       kept = λ i. map (λ u. string_bytes u) (none i) ++ filter (is_other c.args.known.now) (map (λ u. string_bytes u) (all.0 i));
       apart = subst (λ ks. AreApart (map (λ u. string_bytes u) ks ++ map (λ u. string_bytes u) c.into_iter-text-iterator.result)) (sym none) (subst (λ ks. AreApart (map (λ u. string_bytes u) ks)) (sym all.0) apart);
@@ -22,10 +22,12 @@ loop-text-preserved-then-ne c =
     let ks = c.loop-text.rest.keys in
     let us = map (λ u. string_bytes u) ks in
     let xs = map (λ u. string_bytes u) c.next.new.self in
-    let x = string_bytes c.in-Some.text in
-    let next : c.loop-text.text-iterator ≡ c.in-Some.text ∷ c.next.new.self = c.in-Some.ensures.steps in
+    let x = string_bytes c.in-Some.text.now in
+    let next : c.loop-text.text-iterator ≡ c.in-Some.text.now ∷ c.next.new.self = c.in-Some.ensures.steps in
     let apart = subst (λ ls. AreApart (us ++ map (λ u. string_bytes u) ls)) next c.loop-text.invariant.apart in
-    let last : map (λ u. string_bytes u) c.insert.new.self.keys ≡ us ++ x ∷ [] = ap (map (λ u. string_bytes u)) c.in_ok-insert.ensures.keys ∙ inserted_last c.in-Some.text ks (apart_new us xs x apart) in
+    let copied : string_bytes c.in_ok-clone.field-0 ≡ x = c.in_ok-clone.ensures.cases in
+    let alike = subst (λ y. AreApart (us ++ y ∷ xs)) (sym copied) apart in
+    let last : map (λ u. string_bytes u) c.insert.new.self.keys ≡ us ++ x ∷ [] = ap (map (λ u. string_bytes u)) c.in_ok-insert.ensures.keys ∙ inserted_last c.in_ok-clone.field-0 ks (apart_new us xs (string_bytes c.in_ok-clone.field-0) alike) ∙ ap (λ y. us ++ y ∷ []) copied in
     let some : nat_eq (length x) 0 ≡ false = search rules in
     let passes : p x ≡ true = is_declared c.args.known.now x c.as_str.result.now c.as_str.ensures.value some (sym c.if-ne.ensures) in
     record {
@@ -38,8 +40,8 @@ loop-text-preserved c =
     let p = is_other c.args.known.now in
     let us = map (λ u. string_bytes u) c.loop-text.rest.keys in
     let xs = map (λ u. string_bytes u) c.next.new.self in
-    let x = string_bytes c.in-Some.text in
-    let next : c.loop-text.text-iterator ≡ c.in-Some.text ∷ c.next.new.self = c.in-Some.ensures.steps in
+    let x = string_bytes c.in-Some.text.now in
+    let next : c.loop-text.text-iterator ≡ c.in-Some.text.now ∷ c.next.new.self = c.in-Some.ensures.steps in
     let apart = subst (λ ls. AreApart (us ++ map (λ u. string_bytes u) ls)) next c.loop-text.invariant.apart in
     let fails : p x ≡ false = elim c.else-not-is_empty.branch [
       | else-not-is_empty-via-then-not-is_empty+else-ne w ↦ not_known c.args.known.now x w.as_str.result.now w.as_str.ensures.value (sym w.if-ne.ensures)

@@ -9,12 +9,12 @@ pub invariant_of-result : goal.invariant_of-result
 invariant_of-result c =
     let G = listed_grammar_view c.args.grammar in
     let w = c.args.grammar.well_formed in
-    let N = parts_view c.in_ok-start.start c.in_ok-start.defs.items in
-    record { well_formed = normal_well_formed G N c.in_ok-start.ensures w; source = has_source G N c.in_ok-start.ensures w c.args.grammar.writable }
+    let N = parts_view c.in_ok-start.field-0.start c.in_ok-start.field-0.defs.items in
+    record { well_formed = normal_well_formed G N c.in_ok-start.ensures w; source = has_source G N c.in_ok-start.ensures w c.args.grammar.writable; known = c.in_ok-start.field-0.known }
 
 pub returns-clause-documents : goal.returns-clause-documents
 returns-clause-documents c = λ T doc.
     let G = listed_grammar_view c.args.grammar in
-    let N = parts_view c.in_ok-start.start c.in_ok-start.defs.items in
+    let N = parts_view c.in_ok-start.field-0.start c.in_ok-start.field-0.defs.items in
     let w = c.args.grammar.well_formed in
     canonical_grammar_valid G N c.in_ok-start.ensures T w.start_excepts w.excepts doc

@@ -5,4 +5,4 @@ use Rattle.rn_simplify.specs.NormalParts.{parts_view}
 use Rattle.rn_simplify.proofs.normalising.normalise_in.Goals as goal
 
 pub normal_of-requires : goal.normal_of-requires
-normal_of-requires g c = subst (λ (G : Grammar). IsCanonicalOf G (parts_view c.in_ok-parts.parts.0 c.in_ok-parts.parts.1.items)) c.listed.ensures c.in_ok-parts.ensures.canonical
+normal_of-requires g c = subst (λ (G : Grammar). IsCanonicalOf G (parts_view c.in_ok-parts.parts.start c.in_ok-parts.parts.defs.items)) c.listed.ensures c.in_ok-parts.ensures.canonical

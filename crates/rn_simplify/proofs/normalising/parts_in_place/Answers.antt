@@ -30,4 +30,4 @@ returns c =
     let fs = definitions_view c.form_definitions.new.definitions.entries.items in
     let made : fs ≡ map (λ (d : Text × Tree). (d.0, canonical (becomes_by G.definitions kinds) d.1)) ds =
     c.in_ok-rows.ensures.formed ∙ ap (λ (es : List (Text × Tree)). map (λ (d : Text × Tree). (d.0, canonical (becomes_by es kinds) d.1)) ds) c.into_parts-definitions.ensures.definitions in
-    canonical_of G (becomes_by G.definitions kinds) rank ds fs (definitions_view c.in_ok-defs.defs.items) G.start (pattern_view c.in_ok-start.start) settling c.into_parts-definitions.ensures.definitions refl start made c.in_ok-defs.ensures
+    canonical_of G (becomes_by G.definitions kinds) rank ds fs (definitions_view c.in_ok-defs.field-0.defs.items) G.start (pattern_view c.in_ok-start.start) settling c.into_parts-definitions.ensures.definitions refl start made c.in_ok-defs.ensures.pruned

@@ -14,8 +14,8 @@ pub returns-clause-canonical : goal.returns-clause-canonical
 returns-clause-canonical g c =
     let (rank, settling) = c.in_ok-settled.ensures.exact in
     let fs = definitions_view c.in_ok-forms.forms.items in
-    let vs = definitions_view c.in_ok-defs.defs.items in
-    canonical_of (listed_view c.args.grammar.now) (becomes c.in_ok-settled.settled) rank _ fs vs _ (pattern_view c.in_ok-start.start) settling c.in_ok-settled.ensures.definitions c.start.ensures c.in_ok-start.ensures.made c.in_ok-forms.ensures.made c.in_ok-defs.ensures
+    let vs = definitions_view c.in_ok-defs.field-0.defs.items in
+    canonical_of (listed_view c.args.grammar.now) (becomes c.in_ok-settled.settled) rank _ fs vs _ (pattern_view c.in_ok-start.start) settling c.in_ok-settled.ensures.definitions c.start.ensures c.in_ok-start.ensures.made c.in_ok-forms.ensures.made c.in_ok-defs.ensures.pruned
 
 pub stored_body_form-requires : goal.stored_body_form-requires
 stored_body_form-requires g c = subst (λ (p : Tree). AreFirsts c.start_firsts.result.now (joined_members p)) (sym c.start.ensures) c.start_firsts.ensures

@@ -1,5 +1,5 @@
 use Rattle.std.proofs.Common.{take}
-use Rattle.rn_simplify.specs.NormalView.{definitions_view}
+use Rattle.rn_assemble.specs.GrammarView.{definitions_view}
 use Rattle.rn_simplify.specs.inside.Gathers.{Gathers, by_definitions}
 use Rattle.rn_simplify.proofs.mentions.Mentions.add_definitions.Given as goal
 
