@@ -1,8 +1,8 @@
 // Loaded before a program (LD_PRELOAD), refuses requests for memory. They are counted from 1: all of them, or, with REFUSE_BEGIN
 // and REFUSE_END, those after a request for as many bytes as the one says and before the next for as many as the other. The one
-// of the number REFUSE is refused, with REFUSE_ON all after it too. One for less than a block has is none. To the file descriptor REFUSE_TO goes a letter for each mark
-// (b, e) and for the first request that is refused (r). What it takes of the C library is declared here, so that the compiler
-// of the toolchain, which has no headers, is enough.
+// of the number REFUSE is refused, with REFUSE_ON all after it too. One for less than a block has is none. To the file descriptor
+// REFUSE_TO goes a letter for each mark (b, e) and for the first request that is refused (r). What it takes of the C library is
+// declared here, so that the compiler of the toolchain, which has no headers, is enough.
 typedef unsigned long size_t;
 #define NULL ((void *)0)
 #define RTLD_NEXT ((void *)-1L)

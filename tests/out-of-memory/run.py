@@ -4,9 +4,10 @@
 tests/out-of-memory/run.py [PROGRAM [TESTS..]]: runs each job of a table with its first request for memory refused, then its second, and so on
 until a run asks no further, each once alone and once with all requests after it. A run in which a request was refused ends with status 3, the
 line `Memory` on standard error and nothing on standard output, also where there is another fault. A request is spared where the run goes on
-without it and has the job's own answer: only those that the parser of words makes for texts of its own may be, and the
-first one of `print`, for a block that is given back at once. TESTS are the tests' programs: in each of their tests whose module's name begins with `memory_of_` the requests between the marks are refused in the same way, none may be spared,
-and the test tells whether a call answered so. Without words it takes what `rt ci` built.
+without it and has the job's own answer: only those that the parser of words makes for texts of its own may be, and one of `print`,
+for a block that is given back at once. TESTS are the tests' programs: in each of their tests whose module's name begins with `memory_of_` the
+requests between the marks are refused in the same way, none may be spared, and the test tells whether a call answered so. Without words it takes
+what `rt ci` built.
 Needs Python 3 and a system that loads a library before a program (LD_PRELOAD); the compiler is the toolchain's.
 """
 import collections
