@@ -1,5 +1,5 @@
 -- The keys that start reaches, in the order of their references outside elements (RELAX NG 2001, 4.19), and the keys of definitions.
-use Rattle.std.specs.Prelude.{◌≡◌, ℕ, Bool, true, suc, ◌<◌, List, length, map, take, slice_index_or, Contains, Some, None, nat_eq}
+use Rattle.std.specs.Prelude.{◌≡◌, ◌↔◌, ℕ, Bool, true, suc, ◌<◌, List, length, map, take, slice_index_or, Contains, Some, None, nat_eq}
 use Rattle.std.specs.List.{AllByRecursion, IsDistinct}
 use Rattle.std.specs.List.Sorted.{IsNonDecreasingBy}
 use Rattle.rn_text.specs.Texts.{Text}
@@ -13,7 +13,7 @@ use Rattle.rn_assemble.specs.Combine.{defined_names, joined_grammar, joined_patt
 use Rattle.rn_assemble.specs.Components.{Component, name_key}
 use Rattle.rn_assemble.specs.inside.Keyed.{IsNameNumber, key_at}
 use Rattle.rn_assemble.specs.inside.Referred.{IsLeastRecursive}
-use Rattle.rn_pattern.specs.Graph.{is_marked}
+use Rattle.rn_pattern.specs.Graph.{Reached, is_marked, row}
 
 -- exactly the places that have a mark, each once
 pub record ArePlaces (marks : List Bool) (places : List ℕ) : Type 0 where
@@ -25,6 +25,10 @@ pub record ArePlaces (marks : List Bool) (places : List ℕ) : Type 0 where
 pub record IsOrderBy (marks : List Bool) (rank : ℕ → ℕ) (order : List ℕ) : Type 0 where
   pub places : ArePlaces marks order
   pub rises : IsNonDecreasingBy rank order
+
+-- the marks are those of the keys that start reaches along these references
+abbrev pub AreReached : List (List ℕ) → List Bool → Type 0
+AreReached all marks = (k : ℕ) → (is_marked marks k ≡ true) ↔ Reached all (row all 0) k
 
 -- the numbers of the names that start reaches, which are all defined: each once, and behind those of the names that it refers to outside elements
 pub record IsReferenceOrder (names : List Text) (cs : List Component) (order : List ℕ) : Type 0 where
