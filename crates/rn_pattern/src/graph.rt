@@ -44,7 +44,7 @@ pub fn reached_nodes(alloc: Global, edges: &Rows, first: &[usize]) -> Result<Vec
         → (is_marked seen.items x ≡ true) ↔ Reached (rows_of edges.now) first.now x) }
 {
     let mut seen = vec![in alloc; false; edges.len()]?;
-    let mut order = Vec::new(alloc);
+    let mut order = Vec::with_capacity(alloc, edges.len())?;
     mark_all(&mut seen, &mut order, first)?;
     let mut next = 0;
     while next < order.len() {

@@ -76,7 +76,7 @@ pub struct ReferenceRows {
 }
 
 impl ReferenceRows {
-    /// No rows yet, with the memory to end so many. The only error is want of memory.
+    /// No rows yet, with the memory for so many of one reference each. The only error is want of memory.
     pub fn with_capacity(alloc: Global, count: usize) -> Result<ReferenceRows, AllocError>
         ensures everywhere { IfOk result (λ rows. rows_of rows.everywhere ≡ []) }
         ensures outside { IfOk result (λ rows. rows_of rows.outside ≡ []) }

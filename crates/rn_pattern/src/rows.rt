@@ -31,13 +31,13 @@ impl Rows {
         }
     }
 
-    /// No rows yet, with the memory to end so many. The only error is want of memory.
+    /// No rows yet, with the memory for so many of one node each. The only error is want of memory.
     pub fn with_capacity(alloc: Global, count: usize) -> Result<Rows, AllocError>
         ensures rows { IfOk result (λ rows. rows_of rows ≡ []) }
         ensures open { IfOk result (λ rows. open_row rows ≡ []) }
     {
         Ok(Rows {
-            nodes: Vec::new(alloc),
+            nodes: Vec::with_capacity(alloc, count)?,
             ends: Vec::with_capacity(alloc, count)?,
         })
     }

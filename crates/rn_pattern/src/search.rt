@@ -78,9 +78,9 @@ fn begin(alloc: Global, edges: &Rows) -> Result<Search, AllocError>
     Ok(Search {
         places: vec![in alloc; None; edges.len()]?,
         left: lengths(alloc, edges)?,
-        stack: Vec::new(alloc),
-        path: Vec::new(alloc),
-        bounds: Vec::new(alloc),
+        stack: Vec::with_capacity(alloc, edges.len())?,
+        path: Vec::with_capacity(alloc, edges.len())?,
+        bounds: Vec::with_capacity(alloc, edges.len())?,
         least: None,
         closed: 0,
         ranks: vec![in alloc; 0; edges.len()]?,

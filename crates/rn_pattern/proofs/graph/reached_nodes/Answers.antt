@@ -15,7 +15,7 @@ loop-next-init c =
     let size : length c.in_ok-seen.seen.items ≡ length (rows_of c.args.edges.now) =
     omega (arith, c.in_ok-seen.ensures.len, c.in_ok-seen.seen.ok) in
     search_begins (rows_of c.args.edges.now) c.args.first.now c.in_ok-seen.seen.items _ _
-    (none_yet c.in_ok-seen.seen.items _ (c.in_ok-seen.ensures.items_if_clones_equal (λ y h. h))) size (rw (c.new-order.ensures.items) at c.in_ok-mark_all.ensures)
+    (none_yet c.in_ok-seen.seen.items _ (c.in_ok-seen.ensures.items_if_clones_equal (λ y h. h))) size (rw (c.in_ok-order.ensures.items) at c.in_ok-mark_all.ensures)
 
 pub row-row-requires : goal.row-row-requires
 row-row-requires c =

@@ -10,6 +10,6 @@ returns-clause-grouping c =
     let rows = rows_of c.args.edges.now in
     let none = c.in_ok-vec.ensures.items_if_clones_equal (λ y h. search rules) ∙ ap (λ (n : ℕ). replicate n None) c.len.ensures in
     record {
-      groups = not_begun rows _ _ _ _ _ none c.in_ok-lengths.ensures c.new.ensures.items c.new-2.ensures.items c.new-3.ensures.items;
-      ranking = none_ranked rows _ _ _ none c.new.ensures.items (c.in_ok-vec-2.ensures.items_if_clones_equal (λ y h. h) ∙ ap (λ (n : ℕ). replicate n 0) c.len-2.ensures);
+      groups = not_begun rows _ _ _ _ _ none c.in_ok-lengths.ensures c.in_ok-with_capacity.ensures.items c.in_ok-with_capacity-2.ensures.items c.in_ok-with_capacity-3.ensures.items;
+      ranking = none_ranked rows _ _ _ none c.in_ok-with_capacity.ensures.items (c.in_ok-vec-2.ensures.items_if_clones_equal (λ y h. h) ∙ ap (λ (n : ℕ). replicate n 0) c.len-5.ensures);
     }
