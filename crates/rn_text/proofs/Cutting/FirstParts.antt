@@ -230,10 +230,3 @@ none_at text cs e h = subst BeginsNoPart (sym e) h
 
 pub longest_at : (c : ℕ) (text cs tail after : List ℕ) → text ≡ cs → IsLongestSymbol c cs tail after → IsLongestSymbol c text tail after
 longest_at c text cs tail after e h = subst (λ t. IsLongestSymbol c t tail after) (sym e) h
-
--- the second character is no part of a symbol
-pub no_pair_after : (c : ℕ) (text : List ℕ) (second : ℕ) (rest : List ℕ) → text ≡ second ∷ rest → is_symbol (c ∷ second ∷ []) ≡ false → (d : ℕ) (ds : List ℕ) → text ≡ d ∷ ds → is_symbol (c ∷ d ∷ []) ≡ false
-no_pair_after c text second rest is no_pair d ds e = let same : d ≡ second = cc in ap (λ x. is_symbol (c ∷ x ∷ [])) same ∙ no_pair
-
-pub no_pair_in_nothing : (c : ℕ) (text : List ℕ) → text ≡ [] → (d : ℕ) (ds : List ℕ) → text ≡ d ∷ ds → is_symbol (c ∷ d ∷ []) ≡ false
-no_pair_in_nothing c text is d ds e = let h : [] ≡ d ∷ ds = sym is ∙ e in cc

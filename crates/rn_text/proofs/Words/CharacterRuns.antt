@@ -1,7 +1,7 @@
 -- Texts as lists of characters.
 use Rattle.std.proofs.lemmas.Bool.Decides.{nat_tests}
 use Rattle.std.proofs.Common.{◌≡◌, ℕ, ◌+◌, ◌-◌, ◌<◌, ◌≤◌, Bool, true, false, cond, List, [], ◌∷◌, ◌++◌, length, drop, take, refl, sym, ap, ◌∙◌, subst, arith, ⊎_elim, append-nil, length-append, lit<, ne_eqb, ◌≢◌, Bor, Some, None}
-use Rattle.std.specs.Prelude.{Option, MatchOption, IfSome, ◌==◌, ◌&&◌, encode_utf8, zero, suc}
+use Rattle.std.specs.Prelude.{not, Option, MatchOption, IfSome, ◌==◌, ◌&&◌, encode_utf8, zero, suc}
 use denote.Param.Members.{Mut}
 use Rattle.std.specs.Fn.{AlwaysReturns, Called}
 use Rattle.std.proofs.lemmas.List.Sorted.{answers_always}
@@ -159,6 +159,30 @@ ascii_run p (b ∷ bs) u = ⊎_elim
       ap (λ l. after_run p (chars l)) run ∙ more.1 ∙ sym (ap (after_run p) (chars_past_char (b ∷ bs) bs b u here) ∙ after_run_passes p b (chars bs) both.1),
     ))
     (λ stops. let run = after_run_stops (is_ascii_and p) b bs stops in (subst IsUtf8 (sym run) u, ap (λ l. after_run p (chars l)) run))
+    (cases_Bool (is_ascii_and p b))
+
+-- where the run of ASCII characters that pass ends before one of ASCII, or at the end, no character behind it passes
+is_small : (a : Bool) → not a ≡ false → a ≡ true
+is_small true e = refl
+is_small false e = sym e
+
+fails_small : (p : ℕ → Bool) (b : ℕ) → is_ascii_and p b ≡ false → is_ascii b ≡ true → p b ≡ false
+fails_small p b stops small = ap (λ a. a && p b) (sym small) ∙ stops
+
+pub ascii_end : (p : ℕ → Bool) (bs : List ℕ) → IsUtf8 bs → begins_with (λ b. not (is_ascii b)) (after_run (is_ascii_and p) bs) ≡ false → chars (after_run (is_ascii_and p) bs) ≡ after_run p (chars bs)
+ascii_end p [] u e = chars-nil ∙ ap (after_run p) (sym chars-nil)
+ascii_end p (b ∷ bs) u e = ⊎_elim
+    (λ passes.
+    let both = and_parts (is_ascii b) (p b) passes in
+    let run = after_run_passes (is_ascii_and p) b bs passes in
+    let here : b ∷ bs ≡ encode_utf8 b ++ bs = ap (λ l. l ++ bs) (sym (encode_ascii b (ascii_small b both.0))) in
+    let more = ascii_end p bs (IsUtf8-past_char (b ∷ bs) bs b u here) (ap (begins_with (λ c. not (is_ascii c))) (sym run) ∙ e) in
+    ap chars run ∙ more ∙ sym (ap (after_run p) (chars_past_char (b ∷ bs) bs b u here) ∙ after_run_passes p b (chars bs) both.1))
+    (λ stops.
+    let run = after_run_stops (is_ascii_and p) b bs stops in
+    let small = is_small (is_ascii b) (ap (begins_with (λ c. not (is_ascii c))) (sym run) ∙ e) in
+    let here : b ∷ bs ≡ encode_utf8 b ++ bs = ap (λ l. l ++ bs) (sym (encode_ascii b (ascii_small b small))) in
+    ap chars run ∙ chars_past_char (b ∷ bs) bs b u here ∙ sym (ap (after_run p) (chars_past_char (b ∷ bs) bs b u here) ∙ after_run_stops p b (chars bs) (fails_small p b stops small)))
     (cases_Bool (is_ascii_and p b))
 
 -- a text may be cut behind its run of ASCII characters that pass
