@@ -3,7 +3,7 @@ ghost use Rattle.std.specs.Prelude.{◌≡◌, ◌≤◌, ◌<◌, ◌+◌, [], 
 ghost use Rattle.rn_syntax.specs.inside.Follow.{Starts, Anything, begins_any, behind_class, behind_name, first_terminal};
 ghost use Rattle.rn_syntax.specs.Grammar.{IsAnyName, IsClassCore, IsClassOperand, IsClassPrimary, IsNameClass};
 ghost use Rattle.rn_text.specs.inside.Reading.{GoesOn, MayGoOn};
-ghost use Rattle.rn_syntax.specs.inside.Readers.{Makes, Reads, rest};
+ghost use Rattle.rn_syntax.specs.inside.Readers.{Makes, Reads, Took, rest};
 ghost use Rattle.rn_syntax.specs.inside.Sequence.{IsAnyClassEnd, IsClassEnd, IsHere};
 ghost use Rattle.rn_syntax.specs.Tree as tree;
 ghost use Rattle.rn_syntax.specs.View.{any_view, boxed_class_view, classes_view, name_view};
@@ -53,7 +53,23 @@ fn choice<'a>(
     boxed(alloc, Nc::Choice(members), end)
 }
 
-/// `nc = ncoperand ( "|" ncoperand )*`
+/// The name that stands here, if it is a whole name class: if `{` stands right behind it.
+#[inline(always)]
+fn lone_name<'a>(tokens: &[Token<'a>], at: usize) -> Option<&'a str>
+    ensures inside { IfSome result (λ _. at < length tokens.now) }
+    ensures reads { IfSome result (λ n. Took IsNameClass (Starts behind_class) (rest tokens.now at)
+        (tree.name (tree.local n.now)) (rest tokens.now (at + 1))) }
+{
+    let Terminal::Ident(name) = next(tokens, at) else {
+        return None;
+    };
+    match next(tokens, at + 1) {
+        Terminal::LeftBrace => Some(name),
+        _ => None,
+    }
+}
+
+/// `nc = ncoperand ( "|" ncoperand )*`. Most are one name before `{`, which is asked for first.
 #[cycle(name_class)]
 pub(crate) fn name_class<'a>(
     alloc: Global,
@@ -64,6 +80,9 @@ pub(crate) fn name_class<'a>(
     ensures inside { GoesOn at (length tokens.now) result }
     ensures reads { Reads IsNameClass (Starts behind_class) boxed_class_view tokens.now at result }
 {
+    if let Some(name) = lone_name(tokens, at) {
+        return single_name(alloc, Name::Local(name), at + 1);
+    }
     let (first, mut end) = class_operand(alloc, tokens, at)?;
     if !is_operator(tokens, end, Operator::Bar) {
         return Ok((first, end));

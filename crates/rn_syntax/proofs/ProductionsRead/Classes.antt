@@ -8,7 +8,7 @@ use Rattle.rn_syntax.specs.declared.fault.Fault.{Fault}
 use Rattle.rn_syntax.specs.declared.tree.Nc.{Nc}
 use Rattle.rn_syntax.specs.View.{class_view, boxed_class_view}
 use Rattle.rn_syntax.specs.Terminal as x
-use Rattle.rn_syntax.specs.Terminal.{Terminal, Placed, ◌#◌, ident, operator, minus, left_paren, right_paren}
+use Rattle.rn_syntax.specs.Terminal.{Terminal, Placed, ◌#◌, ident, operator, minus, left_brace, left_paren, right_paren}
 use Rattle.rn_syntax.specs.Tree as t
 use Rattle.rn_syntax.specs.Tree.{AnyName, NameClass, classes_of}
 use Rattle.rn_syntax.specs.Grammar as g
@@ -21,6 +21,7 @@ use Rattle.rn_syntax.proofs.ProductionsRead.Compose.{Upto, Fits, Can, CanBe, upt
 use Rattle.rn_syntax.proofs.ProductionsRead.Repeating.{Whole}
 use Rattle.rn_syntax.proofs.ProductionsRead.Chaining.{Rest, none, some, Chained, alone, many, IsChain, fits_chained, alone_at, So_far}
 use Rattle.rn_syntax.proofs.ProductionsRead.Next.{first_next}
+use Rattle.rn_syntax.proofs.ProductionsRead.Skipping.{bare_here, none_here}
 
 -- ---- cores
 
@@ -327,6 +328,17 @@ class_stuck k = stuck_upto class_start (stuck_in (fits_chained classes_chain) (�
 
 pub class_alone : {ts now : Tokens} {k : NameClass} → Took IsClassOperand (Starts behind_name) ts k now → (first_terminal now ≡ operator o.Bar → ⊥) → Took IsNameClass (Starts behind_class) ts k now
 class_alone {now = now} {k = k} d n = took_upto (upto_then (class_first d) (alone_at classes_chain k n)) (took_gives k now)
+
+-- a name before `{` is a class
+pub lone_class : {n : List ℕ} {i : ℕ} {now next : Tokens} → now ≡ ident n # i ∷ next → first_terminal next ≡ left_brace → Took IsNameClass (Starts behind_class) now (t.name (t.local n)) next
+lone_class {n = n} {now = now} {next = next} e b =
+    let bare = bare_here now (ap (λ ts. no_bracket (first_terminal ts)) e) in
+    let plain = operand_plain (ap (λ ts. begins_any (first_terminal ts)) e) in
+    let behind = followed_took (t.name (t.local n)) (none_here next (ap no_follow b)) in
+    class_alone (took_upto (upto_then (operand_body bare) (upto_then plain (end_core (word_core g.by_name e)))) behind) (λ f. other_sign (sym b ∙ f))
+  where
+    other_sign : left_brace ≡ operator o.Bar → ⊥
+    other_sign e = cc
 
 pub so_far_same : {xs ys : List NameClass} (ts now : Tokens) → xs ≡ ys → So_far classes_chain xs ts now → So_far classes_chain ys ts now
 so_far_same ts now e u = subst (λ (l : List NameClass). So_far classes_chain l ts now) e u

@@ -138,6 +138,12 @@ class_operand-returns-in-Ident-clause-reads t c =
 
 -- ---- name classes
 
+pub name_class-returns-in-Some-clause-inside : goal.name_class-returns-in-Some-clause-inside
+name_class-returns-in-Some-clause-inside t c = made_advanced boxed_class_view _ _ _ _ c.single_name.result c.single_name.ensures (one_on c.in-Some.ensures.inside)
+
+pub name_class-returns-in-Some-clause-reads : goal.name_class-returns-in-Some-clause-reads
+name_class-returns-in-Some-clause-reads t c = made_reads boxed_class_view c.args.tokens.now c.args.at (c.args.at + 1) c.single_name.result c.single_name.ensures (λ s. c.in-Some.ensures.reads)
+
 pub name_class-returns-in_err-first-clause-reads : goal.name_class-returns-in_err-first-clause-reads
 name_class-returns-in_err-first-clause-reads t c =
     let p = err_from_is_err_and c.from_residual.result c.from_residual.ensures.1 in
