@@ -1,15 +1,15 @@
 // Patterns (compact syntax, section 2, pattern).
-ghost use Rattle.std.specs.Prelude.{◌≡◌, ◌≤◌, ◌<◌, false, length};
+ghost use Rattle.std.specs.Prelude.{◌≡◌, ◌≤◌, ◌<◌, ◌+◌, false, length, IfSome};
 ghost use Rattle.rn_syntax.specs.inside.Follow.{Anything, Starts, begins_datatype, behind_core, behind_operand, behind_pattern, behind_primary, first_terminal};
 ghost use Rattle.rn_syntax.specs.Grammar.{IsCore, IsOperand, IsPattern, IsPrimary};
 ghost use Rattle.rn_syntax.specs.inside.PatternEnds.{BehindCore, BehindDatatype, BehindParams, BehindPostfix, BehindPrimary, IsDataEnd, IsTypedValue, IsBraced, IsNamed};
 ghost use Rattle.rn_text.specs.inside.Reading.{GoesOn, MayGoOn};
-ghost use Rattle.rn_syntax.specs.inside.Readers.{Reads, rest};
+ghost use Rattle.rn_syntax.specs.inside.Readers.{Reads, Took, rest};
 ghost use Rattle.rn_syntax.specs.Terminal as terminal;
-ghost use Rattle.rn_syntax.specs.View.{boxed_class_view, boxed_view, datatype_view, params_view};
+ghost use Rattle.rn_syntax.specs.View.{boxed_class_view, boxed_view, datatype_view, params_view, pattern_view};
 
 use crate::annotations::{skip_annotation, skip_follows};
-use crate::boxes::push_member;
+use crate::boxes::{boxed, push_member};
 use crate::constructors::{
     attribute, chain, datum, datum_but, element, empty, list, mixed, not_allowed, plain_value,
     reference, repeated, text, value,
@@ -348,7 +348,32 @@ fn named<'a>(
     Ok(((class, content), behind))
 }
 
-/// `"{" pattern "}"`
+/// The pattern that this token is, if it is a whole one: if `}` stands right behind it.
+#[inline(always)]
+fn lone_token<'a>(tokens: &[Token<'a>], at: usize) -> Option<Pat<'a>>
+    requires { at ≤ length tokens.now }
+    ensures inside { IfSome result (λ _. at + 1 < length tokens.now) }
+    ensures brace { IfSome result (λ _. first_terminal (rest tokens.now (at + 1))
+        ≡ terminal.right_brace) }
+    ensures reads { IfSome result (λ p. Took IsPattern (Starts behind_pattern)
+        (rest tokens.now at) (pattern_view p) (rest tokens.now (at + 1))) }
+{
+    let Terminal::RightBrace = next(tokens, at + 1) else {
+        return None;
+    };
+    match next(tokens, at) {
+        Terminal::Ident(name) => Some(Pat::Ref(name)),
+        Terminal::Keyword(keyword) => match keyword {
+            Keyword::Empty => Some(Pat::Empty),
+            Keyword::NotAllowed => Some(Pat::NotAllowed),
+            Keyword::Text => Some(Pat::Text),
+            _ => None,
+        },
+        _ => None,
+    }
+}
+
+/// `"{" pattern "}"`. Many have one token between them, which is asked for first.
 #[cycle(pattern)]
 fn braced<'a>(
     alloc: Global,
@@ -360,6 +385,9 @@ fn braced<'a>(
     ensures reads { Reads IsBraced Anything boxed_view tokens.now at result }
 {
     let inside = left_brace(tokens, at)?;
+    if let Some(content) = lone_token(tokens, inside) {
+        return boxed(alloc, content, inside + 2);
+    }
     let (content, end) = pattern(alloc, tokens, inside)?;
     Ok((content, right_brace(tokens, end)?))
 }

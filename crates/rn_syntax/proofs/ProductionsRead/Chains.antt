@@ -2,14 +2,15 @@
 use Rattle.std.proofs.Common.{◌≡◌, ℕ, Bool, true, false, List, [], ◌∷◌, refl, ap, sym, ◌∙◌, subst, unwrap_or}
 use Rattle.std.proofs.lemmas.Bool.{false≢true}
 use Rattle.rn_syntax.specs.declared.token.Operator.{Operator}
+use Rattle.rn_syntax.specs.declared.token.Postfix.{Postfix}
 use Rattle.rn_syntax.specs.declared.terminals.Terminal as code
 use Rattle.rn_syntax.specs.declared.terminals.Terminal.TheVariants as c
-use Rattle.rn_syntax.specs.Terminal.{Terminal, ◌#◌, operator, other}
+use Rattle.rn_syntax.specs.Terminal.{Terminal, ◌#◌, operator, right_brace, other}
 use Rattle.rn_syntax.specs.Tree as tree
 use Rattle.rn_syntax.specs.Tree.{Pattern, patterns_of}
 use Rattle.rn_syntax.specs.Grammar as g
-use Rattle.rn_syntax.specs.Grammar.{Tokens, IsPattern, AreMore, IsOperand}
-use Rattle.rn_syntax.specs.inside.Follow.{Starts, first_terminal, behind_operand, behind_pattern}
+use Rattle.rn_syntax.specs.Grammar.{Tokens, IsPattern, AreMore, IsOperand, IsCore}
+use Rattle.rn_syntax.specs.inside.Follow.{Starts, first_terminal, no_bracket, begins_datatype, behind_core, behind_operand, behind_pattern}
 use Rattle.rn_syntax.specs.inside.Sequence.{Then, both}
 use Rattle.rn_syntax.specs.inside.Readers.{Took, Stuck, seen, IsNext}
 use Rattle.rn_syntax.proofs.OneReading.OneClass.{starts_to, tail}
@@ -18,6 +19,8 @@ use Rattle.rn_syntax.proofs.ProductionsRead.Compose.{Upto, Fits, upto_at, upto_t
 use Rattle.rn_syntax.proofs.ProductionsRead.Repeating.{Whole}
 use Rattle.rn_syntax.proofs.ProductionsRead.Chaining.{Rest, none, some, Chained, alone, many, IsChain, So_far}
 use Rattle.rn_syntax.proofs.ProductionsRead.Next.{first_next}
+use Rattle.rn_syntax.proofs.ProductionsRead.Operands.{core_alone}
+use Rattle.rn_syntax.proofs.ProductionsRead.Primaries.{operand_first, operand_core_read}
 
 abbrev pub chain_of : Operator → List Pattern → Pattern
 chain_of op l = tree.chain op (patterns_of l)
@@ -117,6 +120,23 @@ pattern_alone {now = now} behind x h n e = took_upto (first_read h) (record {
   derives = λ more. single;
   only = λ t a y r d w. only_single (ap is_operator (first_alike a) ∙ ap is_operator (first_next now behind (seen x) n) ∙ not_operator x e) d;
 })
+
+-- a core of one token before `}` is a pattern
+pub lone_pattern : {x : Terminal} {i j : ℕ} {now next behind : Tokens} {p : Pattern} → now ≡ x # i ∷ next → no_bracket x ≡ true → begins_datatype x ≡ false
+    → Took IsCore (Starts behind_core) now p next → next ≡ right_brace # j ∷ behind → Took IsPattern (Starts behind_pattern) now p next
+lone_pattern {j = j} {next = next} {behind = behind} {p = p} e b d h close =
+    let first = operand_first e b d in
+    let operand = took_upto (operand_core_read first.0 first.1 h) (core_alone p next behind c.RightBrace (j, close) no_follow no_postfix) in
+    pattern_alone behind c.RightBrace operand (j, close) no_operator
+  where
+    no_follow : c.RightBrace ≡ c.Follow → ⊥
+    no_follow e = cc
+
+    no_postfix : (s : Postfix) → c.RightBrace ≡ c.Postfix s → ⊥
+    no_postfix s e = cc
+
+    no_operator : (op : Operator) → c.RightBrace ≡ c.Operator op → ⊥
+    no_operator op e = cc
 
 pub operands_same : (op : Operator) {xs ys : List Pattern} (ts now : Tokens) → xs ≡ ys → So_far (operands_chain op) xs ts now → So_far (operands_chain op) ys ts now
 operands_same op ts now e u = subst (λ (l : List Pattern). So_far (operands_chain op) l ts now) e u

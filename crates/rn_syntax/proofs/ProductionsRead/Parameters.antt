@@ -5,7 +5,6 @@ use Rattle.rn_text.specs.Texts.{Text}
 use Rattle.rn_syntax.specs.declared.token.Method.TheVariants as m
 use Rattle.rn_syntax.specs.declared.terminals.Terminal as code
 use Rattle.rn_syntax.specs.declared.terminals.Terminal.TheVariants as c
-use Rattle.rn_syntax.specs.Terminal as t
 use Rattle.rn_syntax.specs.Terminal.{Terminal, Placed, ◌#◌, ident, assign, segment, left_brace, right_brace}
 use Rattle.rn_syntax.specs.Tree.{Params}
 use Rattle.rn_syntax.specs.Grammar as g

@@ -8,7 +8,7 @@ use Rattle.rn_syntax.specs.Tree as t
 use Rattle.rn_syntax.specs.View.{boxed_view, boxed_class_view, datatype_view, params_view, pattern_view}
 use Rattle.rn_syntax.specs.declared.tree.Nc as code_class
 use Rattle.rn_syntax.specs.declared.tree.Data.{Data}
-use Rattle.rn_syntax.specs.declared.tree.Pat.{Pat, Element, Attribute, List, Mixed, Empty, NotAllowed, Text, DatumBut, Repeated, the_lemmas}
+use Rattle.rn_syntax.specs.declared.tree.Pat.{Pat, Element, Attribute, List, Mixed, Empty, NotAllowed, Text, Ref, DatumBut, Repeated, the_lemmas}
 
 pub view-Element : (c : Box code_class.Nc Global) (p : Box Pat Global) → pattern_view (Element c p) ≡ t.element (boxed_class_view c) (boxed_view p)
 view-Element c p = search (rules, the_lemmas)
@@ -30,6 +30,9 @@ view-NotAllowed = search (rules, the_lemmas)
 
 pub view-Text : pattern_view Text ≡ t.text
 view-Text = search (rules, the_lemmas)
+
+pub view-Ref : (n : _) → pattern_view (Ref n) ≡ t.ref n.now
+view-Ref n = search (rules, the_lemmas)
 
 pub view-DatumBut : (d : Box Data Global) (i : ℕ) (p : Box Pat Global) → pattern_view (DatumBut d i p) ≡ t.datum_but (datatype_view d.value.datatype) (params_view d.value.params.items) i (pattern_view p.value)
 view-DatumBut d i p = search (rules, the_lemmas)

@@ -2,12 +2,13 @@
 use Rattle.std.proofs.Common.{◌+◌, ◌++◌, ◌∷◌, [], ◌∙◌, sym, ap, map, arith, refl}
 use Rattle.std.proofs.lemmas.Result.{err_from_is_err_and}
 use Rattle.rn_text.specs.declared.keywords.Keyword.TheVariants as word
-use Rattle.rn_syntax.specs.Terminal.{operator}
+use Rattle.rn_syntax.specs.Terminal.{operator, right_brace}
 use Rattle.rn_syntax.specs.Tree as tree
 use Rattle.rn_syntax.specs.View.{boxed_view, datatype_view, params_view, pattern_view}
 use Rattle.rn_syntax.specs.inside.Follow.{first_terminal}
-use Rattle.rn_syntax.proofs.ProductionsRead.Compose.{on_fault, took_same, reads_upto, made_reads, made_passed, made_advanced, later, one_on, passed_on, passed_past}
-use Rattle.rn_syntax.proofs.ProductionsRead.Next.{terminal_at, place_is}
+use Rattle.rn_syntax.proofs.ProductionsRead.Compose.{on_fault, took_same, token_took, reads_upto, made_reads, made_passed, made_advanced, later, one_on, passed_on, passed_past}
+use Rattle.rn_syntax.proofs.ProductionsRead.Next.{terminal_at, next_two, place_is}
+use Rattle.rn_syntax.proofs.ProductionsRead.PatternViews.{boxed_is}
 use Rattle.rn_syntax.proofs.ProductionsRead.Chaining.{chain_read, chain_stuck, chain_end, pushed}
 use Rattle.rn_syntax.proofs.ProductionsRead.Chains.{operands_chain, pattern_stuck, pattern_alone, pattern_first, operands_same}
 use Rattle.rn_syntax.proofs.ProductionsRead.Operands.{no_segment, text_stuck, text_read, params_stuck, params_read, datum_read, except_stuck, except_took, core_made}
@@ -22,6 +23,16 @@ pub braced-returns-in_err-inside-clause-reads : goal.braced-returns-in_err-insid
 braced-returns-in_err-inside-clause-reads t c =
     let p = err_from_is_err_and c.from_residual.result c.from_residual.ensures.1 in
     rw (p.1, p.2) (on_fault c.args.tokens.now c.args.at c.args.at _ (λ s bad k. open_stuck k) c.in_err-inside.ensures.passes)
+
+pub braced-returns-in-Some-clause-inside : goal.braced-returns-in-Some-clause-inside
+braced-returns-in-Some-clause-inside t c = made_advanced (λ b. b.value) _ _ _ _ c.boxed.result c.boxed.ensures (record { further = omega (arith, c.in_ok-inside.ensures.inside.further); inside = omega (arith, c.in-Some.ensures.inside) })
+
+pub braced-returns-in-Some-clause-reads : goal.braced-returns-in-Some-clause-reads
+braced-returns-in-Some-clause-reads t c =
+    let inside = c.in_ok-inside.inside in
+    let brace = terminal_at c.args.tokens.now (inside + 1) right_brace c.in-Some.ensures.inside c.in-Some.ensures.brace in
+    made_reads boxed_view c.args.tokens.now c.args.at (inside + 2) c.boxed.result (boxed_is _ _ c.boxed.result c.boxed.ensures refl)
+    (λ s. braced_took (c.in_ok-inside.ensures.passes s).1 c.in-Some.ensures.reads (token_took (next_two c.args.tokens.now inside brace.1)))
 
 pub braced-returns-in_err-content-clause-reads : goal.braced-returns-in_err-content-clause-reads
 braced-returns-in_err-content-clause-reads t c =
