@@ -1,6 +1,6 @@
 // From a set of modules to its grammar, or to the first refusal that stands (RELAX NG 2001, 4.7, 4.11, 4.16 to 4.19).
-ghost use Rattle.std.specs.Prelude.{List, MatchResult};
-ghost use Rattle.std.specs.List.{AllByRecursion};
+ghost use Rattle.std.specs.Prelude.{◌+◌, ◌<◌, ◌∷◌, List, MatchResult, length, nat_eq};
+ghost use Rattle.std.specs.List.{AllByRecursion, IsDistinct};
 ghost use Rattle.rn_text.specs.Texts.{Text};
 ghost use Rattle.rn_assemble.specs.inside.Checked.{AreExpanded, IsGrammarOf, IsLacking, IsFirstOfModules};
 ghost use Rattle.rn_assemble.specs.Components as specs;
@@ -13,7 +13,7 @@ ghost use Rattle.rn_assemble.specs.inside.Methods.{CanCombine, IsUncombined};
 ghost use Rattle.rn_assemble.specs.Refusal.{IsAssembled, Lacks};
 ghost use Rattle.rn_assemble.specs.Refused.{IsFirstRefusal};
 ghost use Rattle.rn_assemble.specs.ShortTexts.{IsShortened, short_texts};
-ghost use Rattle.rn_assemble.specs.inside.ReferenceOrder.{IsReferenceOrder};
+ghost use Rattle.rn_assemble.specs.inside.ReferenceOrder.{AreDefinedKeys, IsReferenceOrder};
 ghost use Rattle.rn_assemble.specs.inside.Sound.{HasSoundReferences, IsUnsound};
 ghost use Rattle.rn_assemble.specs.inside.Trees.{trees_by};
 ghost use Rattle.rn_assemble.specs.inside.Views.{AreInOrder, AreNamed, modules_view, names_of};
@@ -153,8 +153,8 @@ fn combine_keys<'s>(
 {
     check_overrides(alloc, modules, keys, components.lack)?;
     check_methods(alloc, keys, components)?;
-    let references = check_references(alloc, keys, components, trees)?;
     let defined = defined_keys(alloc, components)?;
+    let references = check_references(alloc, keys, components, trees, &defined)?;
     let order = settling_order(alloc, keys, &defined, references)?;
     combined_grammar(alloc, keys, components, trees, &defined, order)
 }
@@ -208,19 +208,23 @@ fn check_methods(
     Ok(())
 }
 
-/// The references of the keys, which are sound. Or the refusal of names that aren't defined, or of reachable ones that
-/// come back to themselves outside elements (RELAX NG 2001, 4.18 and 4.19).
+/// The references of the keys, which are sound; `defined` are those of the definitions. Or the refusal of names that
+/// aren't defined, or of reachable ones that come back to themselves outside elements (RELAX NG 2001, 4.18 and 4.19).
 fn check_references<'s>(
     alloc: Global,
     keys: &Keys<'s>,
     components: &Components<'_, '_, 's>,
     trees: &Trees<'s>,
+    defined: &[usize],
 ) -> Result<SoundReferences, Refusal>
+    requires once { IsDistinct nat_eq (0 ∷ defined.now) }
+    requires within { AllByRecursion (λ k. k < length (names_of keys.now) + 1) defined.now }
     ensures { OfTrees keys.now (trees_by trees.now.trees.items) components.now
-        (λ names cs. MatchResult result (λ r. HasSoundReferences cs
+        (λ names cs. AreDefinedKeys names cs defined.now
+        → MatchResult result (λ r. HasSoundReferences cs
         × IsReferenceOrder names cs r.order.items) (IsUnsound cs)) }
 {
-    let references = references_of(alloc, keys, components, trees)?;
+    let references = references_of(alloc, keys, components, trees, defined)?;
     match key_order(alloc, &references)? {
         KeyOrder::Ordered(order) => Ok(SoundReferences {
             everywhere: references.everywhere,

@@ -79,8 +79,8 @@ impl<'s> Keys<'s> {
         self.find(name).unwrap_or(START)
     }
 
-    /// The number of a name, if a module defines it. The next key is tried first, then the one that goes on in the same
-    /// step.
+    /// The number of a name, if a module defines it. The key of the next component is tried first, then that of the one
+    /// that goes on in the same step.
     pub fn find_next(&self, name: &str, next: &mut NextKey) -> Option<usize>
         ensures within { IfSome result (λ key. (0 < key)
             × (key < length (names_of self.now) + 1)) }
@@ -91,19 +91,19 @@ impl<'s> Keys<'s> {
             Some(guessed) => guessed,
             None => self.find(name)?,
         };
-        next.note(key, key == behind, self.place(key).saturating_add(1));
+        next.note(self.place(key), key == behind);
         Some(key)
     }
 
-    /// The key that is behind the one found last, if that was right before, or else the one that goes on in the same
-    /// step, or else the first one whose name has the same head; none where none of them has the name.
+    /// The key that is behind the one found last, if that was right before, or else that of the component that goes on
+    /// in the same step, or else the first one whose name has the same head; none where none of them has the name.
     fn guess(&self, name: &str, behind: usize, next: &NextKey) -> Option<usize>
         ensures { IfSome result (IsNameNumber (names_of self.now) name.now) }
     {
         if next.was_right && self.is_named(behind, name) {
             return Some(behind);
         }
-        let in_step = next.in_step();
+        let in_step = self.number_at(next.in_step());
         if self.is_named(in_step, name) {
             return Some(in_step);
         }
@@ -223,10 +223,11 @@ fn head(name: &str, common: usize) -> u64 {
 /// How many references of a key have a step of their own.
 const STEPS: usize = 4;
 
-/// The key that the reference with an index had last, and how far it was from the one before.
+/// The place of the first component of the key that the reference with an index had last, and how far it was from the
+/// one before.
 #[derive(Clone, Copy, Default)]
 struct Step {
-    key: usize,
+    place: usize,
     step: usize,
 }
 
@@ -239,7 +240,7 @@ pub(crate) struct NextKey {
     was_right: bool,
     /// The index of the next reference of its key.
     index: usize,
-    /// For each of the first references of a key, by its index, the key found last and how far that was from the one
+    /// For each of the first references of a key, by its index, the place found last and how far that was from the one
     /// before.
     steps: [Step; STEPS],
 }
@@ -260,23 +261,22 @@ impl NextKey {
         self.index = 0;
     }
 
-    /// The key that goes on in the same step; start where there is none.
+    /// The place of the component that goes on in the same step; behind all components where there is none.
     fn in_step(&self) -> usize {
         match self.steps.get(self.index) {
-            Some(last) => last.key.wrapping_add(last.step),
-            None => START,
+            Some(last) => last.place.wrapping_add(last.step),
+            None => usize::MAX,
         }
     }
 
-    /// Notes the key of the next reference, whether it was that of the component at the place, and the place behind its
-    /// first component.
-    fn note(&mut self, key: usize, was_right: bool, place: usize) {
+    /// Notes the place of the first component of the next reference's key, and whether that key was the one behind.
+    fn note(&mut self, place: usize, was_right: bool) {
         self.was_right = was_right;
-        self.place = place;
+        self.place = place.saturating_add(1);
         if let Some(last) = self.steps.get_mut(self.index) {
             *last = Step {
-                key,
-                step: key.wrapping_sub(last.key),
+                place,
+                step: place.wrapping_sub(last.place),
             };
         }
         self.index = self.index.saturating_add(1);

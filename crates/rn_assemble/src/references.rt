@@ -1,5 +1,6 @@
 // The references of the keys.
-ghost use Rattle.std.specs.Prelude.{◌≡◌, ◌+◌, ◌<◌, List, [], ◌∷◌, length, ◌++◌, vec_len, map, option_map, is_some, MatchResult, IfOk, OnOk};
+ghost use Rattle.std.specs.Prelude.{ℕ, ◌≡◌, ◌+◌, ◌<◌, List, [], ◌∷◌, length, ◌++◌, vec_len, map, nat_eq, option_map, is_some, slice_index_or, MatchResult, IfOk, OnOk};
+ghost use Rattle.std.specs.List.{AllByRecursion, IsDistinct};
 ghost use Rattle.std.specs.List.Sorted.{IsStrictlySortedBy};
 ghost use Rattle.rn_text.specs.Texts.{Text, text_cmp};
 ghost use Rattle.rn_pattern.specs.References.{IsUndefined};
@@ -11,7 +12,8 @@ ghost use Rattle.rn_assemble.specs.Combine.{joined_grammar};
 ghost use Rattle.rn_assemble.specs.Least.{IsLeast};
 ghost use Rattle.rn_pattern.specs.declared.references.Reach.TheVariants.{Everywhere, OutsideElements};
 ghost use Rattle.rn_assemble.specs.inside.Keyed.{IsFound};
-ghost use Rattle.rn_assemble.specs.inside.Referred.{AreAllReferences, AreBodiesAt, AreNumbers, IsFresh, IsLeastUndefined, IsLooked, KeepsLeast, all_references, lesser_text, names_within, number_within, reference_view, references, references_in, tree_of};
+ghost use Rattle.rn_assemble.specs.inside.ReferenceOrder.{AreDefinedKeys};
+ghost use Rattle.rn_assemble.specs.inside.Referred.{AreAllReferences, AreBodiesAt, AreByKey, AreNumbers, IsFresh, IsLeastUndefined, IsLooked, IsRowNumber, KeepsFresh, KeepsLeast, all_references, lesser_text, names_within, number_within, reference_view, references, references_in, tree_of};
 ghost use Rattle.rn_assemble.specs.inside.Views.{names_of};
 ghost use Rattle.rn_pattern.specs.Matching.{definition_of};
 ghost use Rattle.rn_pattern.specs.Graph.{AllBelow, IsGraph, row, rows_of};
@@ -19,10 +21,11 @@ ghost use Rattle.rn_assemble.specs.inside.Listed.{Lists, Live, OfTrees, componen
 ghost use Rattle.rn_assemble.specs.inside.Trees.{TreeView, trees_by};
 
 use crate::components::{Components, Near};
-use crate::keys::{Keys, NextKey};
+use crate::keys::{Keys, NextKey, START};
 use crate::refusal::Refusal;
+use crate::settling_order::definition_numbers;
 use crate::trees::Trees;
-use rn_pattern::{NodeReferences, Reach, ReferenceRows};
+use rn_pattern::{NodeReferences, Reach, ReferenceRows, Rows};
 use rn_syntax::Pat;
 use std::alloc::{AllocError, Global};
 
@@ -34,13 +37,17 @@ struct Reference<'s> {
 }
 
 /// The references of all components. `Undefined` names the least name that is referred to and has no component.
-/// [`NextKey`] tells where a name is looked for first.
+/// `defined` are the keys of the definitions. They are gone through in their order behind start, which is that of their
+/// bodies in memory. [`NextKey`] tells where a name is looked for first.
 pub(crate) fn references_of<'s>(
     alloc: Global,
     keys: &Keys<'s>,
     components: &Components<'_, '_, 's>,
     trees: &Trees<'s>,
+    defined: &[usize],
 ) -> Result<ReferenceRows, Refusal>
+    requires once { IsDistinct nat_eq (0 ∷ defined.now) }
+    requires within { AllByRecursion (λ k. k < length (names_of keys.now) + 1) defined.now }
     ensures everywhere { IfOk result (λ r. IsGraph (rows_of r.everywhere)) }
     ensures everywhere_size { IfOk result (λ r. length (rows_of r.everywhere)
         ≡ length (names_of keys.now) + 1) }
@@ -48,7 +55,7 @@ pub(crate) fn references_of<'s>(
     ensures outside_size { IfOk result (λ r. length (rows_of r.outside)
         ≡ length (names_of keys.now) + 1) }
     ensures found { OfTrees keys.now (trees_by trees.now.trees.items) components.now
-        (λ names cs. MatchResult result
+        (λ names cs. AreDefinedKeys names cs defined.now → MatchResult result
         (λ r. AreAllReferences names cs (rows_of r.everywhere) (rows_of r.outside))
         (IsLeastUndefined cs)) }
 {
@@ -57,10 +64,12 @@ pub(crate) fn references_of<'s>(
     let mut references = Vec::new(alloc);
     let mut row = NodeReferences::new(alloc);
     let mut undefined = None;
-    let mut rows = ReferenceRows::with_capacity(alloc, keys.len())?;
+    let count = defined.len() + 1;
+    let mut rows = ReferenceRows::with_capacity(alloc, count)?;
     let mut near = Near::default();
     let mut next = NextKey::new();
-    for key in 0..keys.len() {
+    for number in 0..count {
+        let key = key_of_row(defined, number);
         bodies_of(components, key, &mut looked, &mut near, &mut bodies)?;
         references_in(components, trees, &bodies, &mut near, &mut references)?;
         row_of(
@@ -75,7 +84,72 @@ pub(crate) fn references_of<'s>(
     }
     match undefined {
         Some(name) => Err(undefined_name(alloc, name)),
-        None => Ok(rows),
+        None => Ok(rows_by_key(alloc, keys.len(), defined, &rows)?),
+    }
+}
+
+/// The key whose row has that number, where start's row is followed by those of the defined keys.
+fn key_of_row(defined: &[usize], number: usize) -> usize
+    ensures { result ≡ slice_index_or (0 ∷ defined.now) number 0 }
+{
+    match number.checked_sub(1) {
+        Some(index) => defined.get(index).copied().unwrap_or(START),
+        None => START,
+    }
+}
+
+/// Puts the rows of start and of the defined keys, which follow it in their order, into the order of their keys. Any
+/// other of that many keys has an empty row.
+fn rows_by_key(
+    alloc: Global,
+    count: usize,
+    defined: &[usize],
+    rows: &ReferenceRows,
+) -> Result<ReferenceRows, AllocError>
+    requires once { IsDistinct nat_eq defined.now }
+    requires within { AllByRecursion (λ k. k < count) defined.now }
+    ensures everywhere { IfOk result (λ r. AreByKey (0 ∷ defined.now) count
+        (rows_of rows.now.everywhere) (rows_of r.everywhere)) }
+    ensures outside { IfOk result (λ r. AreByKey (0 ∷ defined.now) count
+        (rows_of rows.now.outside) (rows_of r.outside)) }
+{
+    let numbers = definition_numbers(alloc, count, defined)?;
+    let mut by_key = ReferenceRows::with_capacity(alloc, count)?;
+    for key in 0..count {
+        let number = row_number(defined, &numbers, key);
+        let everywhere = row_or_none(&rows.everywhere, number);
+        by_key.everywhere.push_row(everywhere)?;
+        let outside = row_or_none(&rows.outside, number);
+        by_key.outside.push_row(outside)?;
+    }
+    Ok(by_key)
+}
+
+/// The number of a key's row, where start's row is followed by those of the defined keys; none for any other key.
+/// `numbers` has the index of each defined key.
+fn row_number(defined: &[usize], numbers: &[usize], key: usize) -> Option<usize>
+    ensures { ((i : ℕ) → i < length defined.now
+        → slice_index_or numbers.now (slice_index_or defined.now i 0) 0 ≡ i)
+        → IsRowNumber (0 ∷ defined.now) key result }
+{
+    if key == START {
+        return Some(0);
+    }
+    let index = numbers.get(key).copied().unwrap_or(0);
+    if index < defined.len() && defined[index] == key {
+        Some(index + 1)
+    } else {
+        None
+    }
+}
+
+/// The row with that number; an empty one where there is none.
+fn row_or_none(rows: &Rows, number: Option<usize>) -> &[usize]
+    ensures { result.now ≡ option_map_or (row (rows_of rows.now)) number [] }
+{
+    match number {
+        Some(number) if number < rows.len() => rows.row(number),
+        _ => &[],
     }
 }
 
@@ -100,7 +174,7 @@ fn bodies_of(
 ) -> Result<(), AllocError>
     requires { IsFresh key looked.old.items }
     ensures size { vec_len looked.new ≡ vec_len looked.old }
-    ensures fresh { OnOk result (IsFresh (key + 1) looked.new.items) }
+    ensures fresh { OnOk result (KeepsFresh key looked.old.items looked.new.items) }
     ensures found { OnOk result (AreBodiesAt (length looked.old.items)
         components.now.list (row components.now.places.items key) bodies.new.items) }
 {

@@ -181,7 +181,7 @@ impl<'c, 't, 's> Components<'c, 't, 's> {
 }
 
 /// For each of that many keys, the index of it among the defined ones; 0 for those that aren't among them.
-fn definition_numbers(
+pub(crate) fn definition_numbers(
     alloc: Global,
     count: usize,
     defined: &[usize],

@@ -5,7 +5,7 @@ use Rattle.std.proofs.lemmas.Bool.{cases_eq, cases_lt}
 use Rattle.std.proofs.lemmas.List.{length-set, get_or-set_same, get_or-set_other, get_or_default, get_or-replicate, length-replicate, get_or_past}
 use Rattle.std.proofs.lemmas.Option.{same_Some}
 use Rattle.std.proofs.lemmas.List.Elements.{Contains-append_left, Contains-push, Contains-push_cases, Contains-get_or}
-use Rattle.rn_assemble.specs.inside.Referred.{AreBodiesAt, IsFresh, IsLooked, looked_under}
+use Rattle.rn_assemble.specs.inside.Referred.{AreBodiesAt, IsFresh, IsLooked, KeepsFresh, looked_under}
 use Rattle.rn_assemble.specs.inside.Tied.{body_of}
 use Rattle.rn_assemble.proofs.Expansion.LiveLists.{row_body}
 
@@ -22,7 +22,7 @@ module _ (list row : List ℕ) (key : ℕ) (old : List (Option ℕ)) where
   looking_begins f = record {
     size = refl;
     only = λ n c. absurd (omega (arith, c.1));
-    marked = λ n e. absurd (f n key (omega arith) e);
+    marked = λ n e. absurd (f n e);
     all = λ k h. absurd (omega arith);
     others = λ n j e. inr e;
   }
@@ -62,8 +62,8 @@ module _ (list row : List ℕ) (key : ℕ) (old : List (Option ℕ)) where
     all = λ place n c is b. l.all c.0 (omega (arith, c.1, h)) n (ap (slice_get list) (get_or_default row c.0 0 place c.1 ∙ c.2) ∙ is) b;
   }
 
-  pub looked_fresh : (looked : List (Option ℕ)) (i : ℕ) (bodies : List ℕ) → IsFresh key old → Looking list row key old looked i bodies → IsFresh (key + 1) looked
-  looked_fresh looked i bodies f l n j h is = ⊎_elim (λ e. absurd (omega (arith, e, h))) (λ was. f n j (omega (arith, h)) was) (l.others n j is)
+  pub looked_kept : (looked : List (Option ℕ)) (i : ℕ) (bodies : List ℕ) → Looking list row key old looked i bodies → KeepsFresh key old looked
+  looked_kept looked i bodies l other ne f n is = ⊎_elim (λ e. absurd (ne e)) (λ was. absurd (f n was)) (l.others n other is)
 
 pub no_value : {A : Type 0} (o : Option A) → ((x : A) → o ≡ Some x → ⊥) → o ≡ None
 no_value None h = refl
@@ -71,7 +71,7 @@ no_value (Some x) h = absurd (h x refl)
 
 -- before the first key
 pub none_looked : (looked : List (Option ℕ)) (n key : ℕ) → looked ≡ replicate n None → IsFresh key looked
-none_looked looked n key e m j h is = let no : None ≡ Some j = sym (at m) ∙ ap (λ ls. looked_under ls m) (sym e) ∙ is in cc
+none_looked looked n key e m is = let no : None ≡ Some key = sym (at m) ∙ ap (λ ls. looked_under ls m) (sym e) ∙ is in cc
   where
     at : (m : ℕ) → looked_under (replicate n None) m ≡ None
     at m = elim (cases_lt m n) [ inl h ↦ get_or-replicate n m None None h | inr h ↦ get_or_past (replicate n None) m None (omega (arith, h, length-replicate {A = Option ℕ} n None)) ]

@@ -1,10 +1,10 @@
 -- What is joined of components refers to what one of them refers to.
-use Rattle.std.proofs.Common.{◌≡◌, ◌⊎◌, inl, inr, ⊎_elim, Bool, true, false, cond, List, [], ◌∷◌, Option, sym, subst, arith, Contains}
+use Rattle.std.proofs.Common.{◌≡◌, ◌⊎◌, inl, inr, ⊎_elim, Bool, true, false, cond, List, [], ◌∷◌, Option, Some, None, sym, subst, arith, Contains}
 use Rattle.std.specs.Prelude.{IsSomeAnd}
 use Rattle.rn_pattern.specs.Tree as tree
 use Rattle.rn_pattern.specs.Tree.{Tree, Trees, interleave, choice, no_trees, more_trees, trees_of}
 use Rattle.rn_text.specs.Texts.{Text}
-use Rattle.rn_pattern.specs.Matching.{definition_of}
+use Rattle.rn_pattern.specs.Matching.{Grammar, definition_of}
 use Rattle.rn_pattern.specs.Reached.{RefersTo, SomeRefersTo}
 use Rattle.rn_pattern.specs.References.{RefersOutside, SomeRefersOutside}
 use Rattle.rn_pattern.proofs.Ordered.InOrder.{contains_behind, contains_front, contains_cases}
@@ -108,3 +108,7 @@ mutual
   some_outside_anywhere : (x : Text) (ps : Trees) → SomeRefersOutside x ps → SomeRefersTo x ps
   some_outside_anywhere x no_trees h = absurd h
   some_outside_anywhere x (more_trees p ps) h = ⊎_elim (λ a. inl (outside_anywhere x p a)) (λ b. inr (some_outside_anywhere x ps b)) h
+
+pub some_definition : (G : Grammar) (x y : Text) (o : Option Tree) → definition_of G y ≡ o → IsSomeAnd o (RefersTo x) → (p : Tree) × (definition_of G y ≡ Some p) × RefersTo x p
+some_definition G x y None e h = absurd h
+some_definition G x y (Some p) e h = (p, e, h)

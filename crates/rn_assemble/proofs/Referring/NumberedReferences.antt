@@ -18,8 +18,7 @@ use Rattle.rn_assemble.specs.inside.Keyed.{IsNameNumber, key_at}
 use Rattle.rn_assemble.specs.inside.Referred.{AreAllReferences, IsLeastRecursive}
 use Rattle.rn_assemble.proofs.Referring.KeyNumbers.{same_name, names_rise, not_itself, same_number}
 use Rattle.rn_assemble.proofs.Expansion.LongerPaths.{lead_first, reach_last}
-use Rattle.rn_assemble.proofs.Referring.GatheredReferences.{some_definition}
-use Rattle.rn_assemble.proofs.Referring.JoinedReferences.{refers_in_definition, definition_refers_to, outside_in_definition, definition_refers_outside, outside_anywhere}
+use Rattle.rn_assemble.proofs.Referring.JoinedReferences.{refers_in_definition, definition_refers_to, outside_in_definition, definition_refers_outside, outside_anywhere, some_definition}
 
 module _ (names : List Text) (sorted : IsStrictlySortedBy text_cmp names) (cs : List Component) (all outer : List (List ℕ)) (refs : AreAllReferences names cs all outer) where
   abbrev G : Grammar

@@ -1,5 +1,5 @@
 -- What components refer to, by the numbers of keys (RELAX NG 2001, 4.18 and 4.19).
-use Rattle.std.specs.Prelude.{ℕ, suc, ◌≡◌, ◌≢◌, ◌<◌, ◌≤◌, List, [], ◌∷◌, ◌++◌, length, slice_get, slice_index_or, slice_set, flat_map, option_map, Contains, Option, Some, None, IsSome, if◌then◌else◌, ⊤}
+use Rattle.std.specs.Prelude.{ℕ, suc, ◌≡◌, ◌≢◌, ◌<◌, List, [], ◌∷◌, ◌++◌, length, slice_get, slice_index_or, slice_set, flat_map, option_map, Contains, Option, Some, None, IsSome, if◌then◌else◌, ⊤}
 use Rattle.std.specs.Borrow.{Bor}
 use Rattle.std.specs.List.Sorted.{IsStrictlySortedBy}
 use Rattle.std.specs.Option.{option_map_or}
@@ -108,9 +108,13 @@ pub record AreBodiesAt (size : ℕ) (list places : List ℕ) (bodies : List ℕ)
 abbrev pub looked_under : List (Option ℕ) → ℕ → Option ℕ
 looked_under looked n = slice_index_or looked n None
 
--- none was looked at under this key or a later one
+-- no body was last looked at under this key
 abbrev pub IsFresh : ℕ → List (Option ℕ) → Type 0
-IsFresh key looked = (n j : ℕ) → key ≤ j → looked_under looked n ≢ Some j
+IsFresh key looked = (n : ℕ) → looked_under looked n ≢ Some key
+
+-- no other key is looked at
+abbrev pub KeepsFresh : ℕ → (old new : List (Option ℕ)) → Type 0
+KeepsFresh key old new = (other : ℕ) → other ≢ key → IsFresh other old → IsFresh other new
 
 -- the body was looked at under the key before, or it is now
 abbrev pub IsLooked : Option ℕ → ℕ → (old new : List (Option ℕ)) → Option ℕ → Type 0
@@ -125,6 +129,16 @@ lesser_text (Some h) x = if is_lt (text_cmp x h) then x else h
 pub record AreNumbers (names texts : List Text) (numbers : List ℕ) : Type 0 where
   pub only : (m : ℕ) → Contains numbers m → (x : Text) × Contains texts x × IsNameNumber names x m
   pub all : (x : Text) → Contains texts x → Contains names x → (m : ℕ) × IsNameNumber names x m × Contains numbers m
+
+-- the number of the key's row, where the rows are those of these keys in their order; none where the key is not among them
+abbrev pub IsRowNumber : (keys : List ℕ) → ℕ → Option ℕ → Type 0
+IsRowNumber keys key None = ¬ Contains keys key
+IsRowNumber keys key (Some n) = (n < length keys) × (slice_index_or keys n 0 ≡ key)
+
+-- the rows of these keys in the order of the numbers below count; those of other numbers are empty
+pub record AreByKey (keys : List ℕ) (count : ℕ) (old new : List (List ℕ)) : Type 0 where
+  pub size : length new ≡ count
+  pub each : (key : ℕ) → key < count → (n : Option ℕ) × IsRowNumber keys key n × (row new key ≡ option_map_or (row old) n [])
 
 -- the least of the names that have no definition
 abbrev pub IsLeastOf : Grammar → List Text → Option Text → Type 0

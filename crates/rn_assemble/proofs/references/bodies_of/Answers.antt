@@ -3,7 +3,7 @@ use Rattle.std.proofs.Common.{◌<◌, length, ℕ, Vec, ap, sym, ◌∙◌, sub
 use Rattle.std.specs.declared.alloc.Global.{Global}
 use Rattle.rn_pattern.specs.Graph as graph
 use Rattle.rn_assemble.specs.inside.Referred.{IsLooked}
-use Rattle.rn_assemble.proofs.Joining.BodiesLookedAt.{Looking, looking_begins, looking_on, looking_at, looking_ends, looked_fresh, no_value}
+use Rattle.rn_assemble.proofs.Joining.BodiesLookedAt.{Looking, looking_begins, looking_on, looking_at, looking_ends, looked_kept, no_value}
 use Rattle.rn_assemble.proofs.references.bodies_of.Goals as goal
 use Rattle.rn_assemble.proofs.references.bodies_of.Goals.{in-Some+in_ok-push, in_default}
 
@@ -35,4 +35,4 @@ pub returns-clause-found : goal.returns-clause-found
 returns-clause-found c = looking_ends _ _ _ _ _ c.loop-index.index _ (omega (arith, c.loop-index-test.false, c.count_of-index-end.ensures)) c.loop-index.invariant
 
 pub returns-clause-fresh : goal.returns-clause-fresh
-returns-clause-fresh c = looked_fresh _ _ _ _ _ _ _ c.requires c.loop-index.invariant
+returns-clause-fresh c = looked_kept _ _ _ _ _ _ _ c.loop-index.invariant
