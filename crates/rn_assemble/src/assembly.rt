@@ -51,8 +51,8 @@ pub struct ShortGrammar {
 }
 
 /// The combined patterns of a set, and what their URIs stand for.
-struct ShortCombined<'s> {
-    combined: Combined<'s>,
+struct ShortCombined {
+    combined: Combined,
     uris: ShortUris,
 }
 
@@ -71,7 +71,7 @@ pub fn assemble(alloc: Global, set: &ModuleSet) -> Result<Grammar, Refusal>
 }
 
 /// The combined patterns of the set, or the first refusal that stands for it. The trees of the modules are given up.
-fn combine_set<'s>(alloc: Global, set: &'s ModuleSet) -> Result<Combined<'s>, Refusal>
+fn combine_set(alloc: Global, set: &ModuleSet) -> Result<Combined, Refusal>
     ensures { MatchResult result (λ c. IsAssembled set.now (combined_view c))
         (IsFirstRefusal set.now) }
 {
@@ -90,13 +90,13 @@ pub fn assemble_short(alloc: Global, set: &ModuleSet) -> Result<ShortGrammar, Re
 {
     let ShortCombined { combined, uris } = combine_short(alloc, set)?;
     let seed = seed_of(set);
-    let grammar = listed_grammar(alloc, combined, &seed)?;
+    let grammar = listed_grammar(combined, &seed);
     Ok(ShortGrammar { grammar, uris })
 }
 
 /// The combined patterns of the set with short texts in the place of long URIs, and the URIs that these stand for; or
 /// the first refusal that stands for the set. The trees of the modules are given up.
-fn combine_short<'s>(alloc: Global, set: &'s ModuleSet) -> Result<ShortCombined<'s>, Refusal>
+fn combine_short(alloc: Global, set: &ModuleSet) -> Result<ShortCombined, Refusal>
     ensures { MatchResult result
         (λ c. IsShortened set.now (short_texts c.uris) (combined_view c.combined))
         (IsFirstRefusal set.now) }
@@ -110,10 +110,7 @@ fn combine_short<'s>(alloc: Global, set: &'s ModuleSet) -> Result<ShortCombined<
 
 /// The combined patterns of the modules, or the first refusal that stands for them. The modules are given up piece by
 /// piece: the items where their contents are known, and the tree of each component once it was resolved.
-fn combine_modules<'s>(
-    alloc: Global,
-    modules: Vec<NamedModule<'s>>,
-) -> Result<Combined<'s>, Refusal>
+fn combine_modules(alloc: Global, modules: Vec<NamedModule<'_>>) -> Result<Combined, Refusal>
     requires in_order { AreInOrder modules.items }
     requires flat { AllByRecursion (λ (m : specs.NamedModule). AreFlat m.tree.items)
         (modules_view modules.items) }
@@ -144,7 +141,7 @@ fn combine_keys<'s>(
     keys: &Keys<'s>,
     components: &Components<'_, '_, 's>,
     trees: &mut Trees<'s>,
-) -> Result<Combined<'s>, Refusal>
+) -> Result<Combined, Refusal>
     requires { (ms : List specs.NamedModule) × AreNamed ms modules.now
         × AreExpanded ms (names_of keys.now) (trees_by trees.old.trees.items) components.now }
     ensures { (ms : List specs.NamedModule) → AreNamed ms modules.now

@@ -1,6 +1,12 @@
 // The patterns of all keys, combined, with the names of the definitions.
-ghost use Rattle.std.specs.Prelude.{◌≡◌, ◌≤◌, true, length, IfOk, MatchResult};
-ghost use Rattle.rn_assemble.specs.Components.{has_key, start_key};
+ghost use Rattle.std.specs.Prelude.{◌≡◌, ◌<◌, ◌≤◌, true, length, map, List, IfOk, MatchResult};
+ghost use Rattle.indexmap.specs.IndexMap.{set_value_at};
+ghost use Rattle.rn_pattern.specs.Tree.{Tree};
+ghost use Rattle.rn_pattern.specs.View.{pattern_view};
+ghost use Rattle.rn_text.specs.Texts.{Text};
+ghost use Rattle.rn_assemble.specs.Combine.{defined_names};
+ghost use Rattle.rn_assemble.specs.Components.{Component, has_key, start_key};
+ghost use Rattle.rn_assemble.specs.DefinitionsView.{definitions_view};
 ghost use Rattle.rn_assemble.specs.inside.CombinedDefinitions.{AreDefinitions};
 ghost use Rattle.rn_assemble.specs.inside.Tied.{HasRow, firsts_of};
 ghost use Rattle.rn_assemble.specs.inside.Joining.{CanBeSettled, IsCombinedGrammar, IsMisnamed};
@@ -10,7 +16,7 @@ ghost use Rattle.rn_assemble.specs.inside.Patterns.{AfterStart};
 ghost use Rattle.rn_assemble.specs.inside.ReferenceOrder.{AreDefinedKeys};
 ghost use Rattle.rn_assemble.specs.inside.Views.{names_of};
 
-use crate::combined_grammar::{Combined, CombinedDefinition};
+use crate::combined_grammar::Combined;
 use crate::combining::Combining;
 use crate::components::Components;
 use crate::firsts::Met;
@@ -18,18 +24,19 @@ use crate::keys::{Keys, START};
 use crate::refusal::Refusal;
 use crate::settling_order::SettlingOrder;
 use crate::trees::Trees;
+use rn_pattern::Pattern;
 use std::alloc::{AllocError, Global};
 
 /// The combined patterns of all keys, those of names in the order of `defined`. The tree of each component is given up
 /// once it was resolved. The order in which they can be settled is given.
-pub(crate) fn combined_grammar<'s>(
+pub(crate) fn combined_grammar(
     alloc: Global,
-    keys: &Keys<'s>,
+    keys: &Keys<'_>,
     components: &Components<'_, '_, '_>,
     trees: &mut Trees<'_>,
     defined: &[usize],
     order: SettlingOrder,
-) -> Result<Combined<'s>, Refusal>
+) -> Result<Combined, Refusal>
     requires { CanBeSettled (names_of keys.now) (trees_by trees.old.trees.items) components.now
         defined.now order.numbers.items }
     ensures { OfTrees keys.now (trees_by trees.old.trees.items) components.now
@@ -63,34 +70,63 @@ pub(crate) fn combined_grammar<'s>(
 /// The definitions of all names that have components, once start is combined, and the first places of their members.
 /// The keys of the names are `defined`, in the order of the definitions. `NameClass` names the least one that breaks
 /// the restrictions on name classes, whichever came first.
-fn definitions<'s>(
+fn definitions(
     alloc: Global,
-    keys: &Keys<'s>,
+    keys: &Keys<'_>,
     components: &Components<'_, '_, '_>,
     trees: &mut Trees<'_>,
     defined: &[usize],
     combining: &mut Combining,
     met: &mut Met,
-) -> Result<(Vec<CombinedDefinition<'s>>, Vec<Vec<u32>>), Refusal>
+) -> Result<(Vec<(String, Pattern)>, Vec<Vec<u32>>), Refusal>
     requires { length combining.old.shared.items ≡ length components.now.bodies }
     ensures { AfterStart keys.now (trees_by trees.old.trees.items) components.now combining.old
         (λ cs. AreDefinedKeys (names_of keys.now) cs defined.now → MatchResult result
         (λ made. AreDefinitions cs made.0.items made.1.items) (IsMisnamed cs)) }
 {
-    let mut definitions = Vec::with_capacity(alloc, defined.len())?;
+    let mut definitions = named_definitions(alloc, keys, defined)?;
     let mut firsts = Vec::new(alloc);
-    for key in defined {
-        if let Some(pattern) = combining.combine_or_note(alloc, keys, components, trees, *key)? {
-            let found = components.firsts(alloc, *key, met)?;
-            keep_row(alloc, &mut firsts, definitions.len(), found)?;
-            let name = keys.name(*key);
-            definitions.push(CombinedDefinition { name, pattern })?;
+    for number in 0..defined.len() {
+        let key = defined[number];
+        if let Some(pattern) = combining.combine_or_note(alloc, keys, components, trees, key)? {
+            let found = components.firsts(alloc, key, met)?;
+            keep_row(alloc, &mut firsts, number, found)?;
+            put_body(&mut definitions, number, pattern);
         }
     }
     match combining.refusal(alloc, keys) {
         Some(refusal) => Err(refusal),
         None => Ok((definitions, firsts)),
     }
+}
+
+/// The names of all definitions, each with `empty` for its body as yet. Made at once, they lie side by side in memory.
+fn named_definitions(
+    alloc: Global,
+    keys: &Keys<'_>,
+    defined: &[usize],
+) -> Result<Vec<(String, Pattern)>, AllocError>
+    ensures count { IfOk result (λ ds. length ds.items ≡ length defined.now) }
+    ensures names { (cs : List Component) → AreDefinedKeys (names_of keys.now) cs defined.now
+        → IfOk result (λ ds. map (λ (d : Text × Tree). d.0) (definitions_view ds.items)
+        ≡ defined_names cs) }
+{
+    let mut definitions = Vec::with_capacity(alloc, defined.len())?;
+    for key in defined {
+        let name = String::from_str(alloc, keys.name(*key))?;
+        definitions.push((name, Pattern::Empty))?;
+    }
+    Ok(definitions)
+}
+
+/// Puts a body beside the name with a number.
+fn put_body(definitions: &mut Vec<(String, Pattern)>, number: usize, body: Pattern)
+    requires { number < length definitions.old.items }
+    ensures count { length definitions.new.items ≡ length definitions.old.items }
+    ensures bodies { definitions_view definitions.new.items
+        ≡ set_value_at (definitions_view definitions.old.items) number (pattern_view body) }
+{
+    definitions[number].1 = body;
 }
 
 /// Keeps a row at its number, behind all others. An empty one takes no memory.

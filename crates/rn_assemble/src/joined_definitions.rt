@@ -1,5 +1,5 @@
 // The grammar of combined patterns, with its definitions in a map or in a list.
-ghost use Rattle.std.specs.Prelude.{◌≡◌, ◌∷◌, ◌++◌, [], false, bytes_eq, map, IfOk, OnOk};
+ghost use Rattle.std.specs.Prelude.{◌≡◌, ◌∷◌, ◌++◌, [], false, bytes_eq, map, string_bytes, IfOk, OnOk};
 ghost use Rattle.std.specs.List.{list_any};
 ghost use Rattle.rn_pattern.specs.Tree.{Tree};
 ghost use Rattle.rn_text.specs.Texts.{Text};
@@ -9,24 +9,24 @@ ghost use Rattle.rn_assemble.specs.DefinitionsView.{definitions_view};
 ghost use Rattle.rn_assemble.specs.JoinedView.{joined_view};
 ghost use Rattle.rn_assemble.specs.ListedView.{listed_grammar_view};
 ghost use Rattle.rn_assemble.specs.WellFormed.{HasWritableTexts, IsWellFormed};
-ghost use Rattle.rn_assemble.specs.inside.CombinedView.{combined_view, combined_definitions};
+ghost use Rattle.rn_assemble.specs.inside.CombinedView.{combined_view};
 
-use crate::combined_grammar::{Combined, CombinedDefinition};
+use crate::combined_grammar::Combined;
 use crate::grammar::definition_list::DefinitionList;
 use crate::grammar::listed_grammar::ListedGrammar;
 use crate::joined_grammar::{Definitions, Joined};
 use indexmap::IndexMap;
-use rn_pattern::Seed;
+use rn_pattern::{Pattern, Seed};
 use std::alloc::{AllocError, Global};
 
 /// The grammar of combined patterns, whose definitions are hashed by the seed.
 pub(crate) fn joined_grammar(
     alloc: Global,
-    combined: Combined<'_>,
+    combined: Combined,
     seed: &Seed,
 ) -> Result<Joined, AllocError>
     requires { AreDistinct (combined_view combined).definitions }
-    ensures { IfOk result (λ g. joined_view g ≡ combined_view combined.entry) }
+    ensures { IfOk result (λ g. joined_view g ≡ combined_view combined) }
 {
     let Combined {
         start,
@@ -48,47 +48,37 @@ pub(crate) fn joined_grammar(
 /// The definitions by their names, in the order of the combined patterns.
 fn definitions_of(
     alloc: Global,
-    definitions: Vec<CombinedDefinition<'_>>,
+    definitions: Vec<(String, Pattern)>,
     seed: &Seed,
 ) -> Result<Definitions, AllocError>
-    requires { AreDistinct (combined_definitions definitions.items) }
+    requires { AreDistinct (definitions_view definitions.items) }
     ensures { IfOk result (λ defs. definitions_view defs.entries
-        ≡ combined_definitions definitions.entry.items) }
+        ≡ definitions_view definitions.items) }
 {
     let mut defs = IndexMap::with_capacity_and_hasher(alloc, definitions.len(), *seed)?;
-    for definition in definitions {
-        define(alloc, &mut defs, definition)?;
+    for (name, body) in definitions {
+        define(&mut defs, name, body)?;
     }
     Ok(defs)
 }
 
 /// Adds the definition of a name, behind those of others.
-fn define(
-    alloc: Global,
-    defs: &mut Definitions,
-    definition: CombinedDefinition<'_>,
-) -> Result<(), AllocError>
-    ensures { OnOk result (list_any (bytes_eq definition.entry.name.now)
+fn define(defs: &mut Definitions, name: String, body: Pattern) -> Result<(), AllocError>
+    ensures { OnOk result (list_any (bytes_eq (string_bytes name))
         (map (λ (d : Text × Tree). d.0) (definitions_view defs.old.entries)) ≡ false
         → definitions_view defs.new.entries ≡ definitions_view defs.old.entries
-        ++ (definition.entry.name.now, pattern_view definition.entry.pattern) ∷ []) }
+        ++ (string_bytes name, pattern_view body) ∷ []) }
 {
-    let CombinedDefinition { name, pattern } = definition;
-    let name = String::from_str(alloc, name)?;
-    defs.insert(name, pattern)?;
+    defs.insert(name, body)?;
     Ok(())
 }
 
 /// The listed grammar of combined patterns, with a seed for what is hashed.
-pub(crate) fn listed_grammar(
-    alloc: Global,
-    combined: Combined<'_>,
-    seed: &Seed,
-) -> Result<ListedGrammar, AllocError>
+pub(crate) fn listed_grammar(combined: Combined, seed: &Seed) -> ListedGrammar
     requires distinct { AreDistinct (combined_view combined).definitions }
     requires well_formed { IsWellFormed (combined_view combined) }
     requires writable { ∥ HasWritableTexts (combined_view combined) ∥₁ }
-    ensures { IfOk result (λ g. listed_grammar_view g ≡ combined_view combined.entry) }
+    ensures { listed_grammar_view result ≡ combined_view combined }
 {
     let Combined {
         start,
@@ -97,29 +87,20 @@ pub(crate) fn listed_grammar(
         firsts,
         order,
     } = combined;
-    let definitions = list_of(alloc, definitions)?;
-    Ok(ListedGrammar {
+    ListedGrammar {
         start,
-        definitions,
+        definitions: list_of(definitions),
         start_firsts,
         firsts,
         order,
         seed: *seed,
-    })
+    }
 }
 
 /// The definitions in a list, in the order of the combined patterns.
-fn list_of(
-    alloc: Global,
-    definitions: Vec<CombinedDefinition<'_>>,
-) -> Result<DefinitionList, AllocError>
-    requires { AreDistinct (combined_definitions definitions.items) }
-    ensures { IfOk result (λ list. definitions_view list.entries.items
-        ≡ combined_definitions definitions.entry.items) }
+fn list_of(entries: Vec<(String, Pattern)>) -> DefinitionList
+    requires { AreDistinct (definitions_view entries.items) }
+    ensures { result.entries.items ≡ entries.items }
 {
-    let mut entries = Vec::with_capacity(alloc, definitions.len())?;
-    for CombinedDefinition { name, pattern } in definitions {
-        entries.push((String::from_str(alloc, name)?, pattern))?;
-    }
-    Ok(DefinitionList { entries })
+    DefinitionList { entries }
 }

@@ -19,7 +19,7 @@ use Rattle.rn_assemble.specs.declared.bodies.Body.{Body}
 use Rattle.rn_assemble.specs.Combine.{bodies, is_interleave, joined_pattern, of_key, uses}
 use Rattle.rn_assemble.specs.Components.{Component}
 use Rattle.rn_assemble.specs.Firsts.{AreFirsts, joined_members}
-use Rattle.rn_assemble.specs.inside.Tied.{AreTied, HasRow, HaveTied, IsFirst, body_of, firsts_of}
+use Rattle.rn_assemble.specs.inside.Tied.{AreTied, IsFirst, body_of, firsts_of}
 use Rattle.rn_assemble.specs.inside.Keyed.{key_at}
 use Rattle.rn_assemble.specs.inside.Listed.{IsBody, IsLive, Live, ListsBy, components_in}
 use Rattle.rn_assemble.proofs.Referring.FoundReferences.{Shown, shown}
@@ -120,17 +120,3 @@ firsts_more list places firsts f h here i j at =
     (subst (IsFirst list places (length firsts)) (sym (get_or_push firsts f 0 (length firsts) refl)) here)
     i (omega (arith, l, size))
     )
-
--- ---- rows of first places
-
--- those of one definition more
-pub tied_more : (rows rows' : List (List ℕ)) (ds : List (Text × Tree)) (v : List ℕ) (d : Text × Tree) → HasRow rows rows' (length ds) v → HaveTied rows ds → AreTied v (joined_members d.1) → HaveTied rows' (ds ++ d ∷ [])
-tied_more rows rows' ds v d has h here n e l =
-    let longer = length_push ds d in
-    below_more (λ m. AreTied (row rows' m) (joined_members (get_or (ds ++ d ∷ []) m e).1)) (length ds)
-    (λ m lt.
-    let t = get_or_append_left ds (d ∷ []) e m lt in
-    subst (λ (z : List ℕ × (Text × Tree)). AreTied z.0 (joined_members z.1.1)) (λ i. (sym (has.kept m lt) i, sym t i)) (h m e lt))
-    (let t = get_or_push ds d e (length ds) refl in
-    subst (λ (z : List ℕ × (Text × Tree)). AreTied z.0 (joined_members z.1.1)) (λ i. (sym has.is i, sym t i)) here)
-    n (omega (arith, l, longer))

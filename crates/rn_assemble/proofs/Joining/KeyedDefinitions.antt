@@ -1,21 +1,24 @@
 -- The definitions of a grammar, made key by key.
-use Rattle.std.proofs.Common.{◌≡◌, inl, inr, ℕ, zero, suc, ◌+◌, ◌-◌, ◌<◌, ◌≤◌, true, cond, List, [], ◌∷◌, ◌++◌, length, get_or, take, min, Option, Some, None, refl, sym, ap, ◌∙◌, subst, arith}
-use Rattle.std.specs.Prelude.{IfSome, IsSomeAnd, Vec, ⊤}
+use Rattle.std.proofs.Common.{◌≡◌, inl, inr, ℕ, zero, suc, ◌+◌, ◌-◌, ◌<◌, ◌≤◌, true, cond, List, [], length, get_or, map, min, set, Option, Some, None, refl, sym, ap, ◌∙◌, subst, arith}
+use Rattle.std.specs.Prelude.{IfSome, IsSomeAnd, String, Vec, ⊤}
 use Rattle.std.specs.List.Sorted.{IsStrictlySortedBy}
 use Rattle.std.specs.declared.alloc.Global.{Global}
 use Rattle.std.proofs.lemmas.Bool.{cases_lt}
-use Rattle.std.proofs.lemmas.List.{get_or-map, length-map, length_push, map-append, take_all, take_more}
+use Rattle.std.proofs.lemmas.List.{ext_get_or, get_or-map, get_or-set_other, get_or-set_same, get_or_default, length-map}
 use Rattle.std.proofs.lemmas.List.Elements.{Contains-get_or}
+use Rattle.indexmap.specs.IndexMap.{set_value_at}
+use Rattle.rn_pattern.specs.Graph.{row}
 use Rattle.rn_pattern.specs.Tree.{Tree}
 use Rattle.rn_pattern.proofs.Ordered.InOrder.{contained_each}
 use Rattle.rn_text.specs.Texts.{Text, text_cmp}
 use Rattle.rn_pattern.specs.View.{pattern_view}
+use Rattle.rn_pattern.specs.declared.tree.Pattern.{Pattern}
 use Rattle.rn_assemble.specs.declared.bodies.Body.{Body}
-use Rattle.rn_assemble.specs.declared.combined_grammar.CombinedDefinition.{CombinedDefinition}
 use Rattle.rn_assemble.specs.declared.refusal.Refusal.{Refusal}
 use Rattle.rn_assemble.specs.Combine.{defined_names, joined_grammar, joined_pattern}
 use Rattle.rn_assemble.specs.Components.{Component, has_key, name_key, start_key}
-use Rattle.rn_assemble.specs.inside.CombinedDefinitions.{AreDefinitions, combined_definitions}
+use Rattle.rn_assemble.specs.DefinitionsView.{definitions_view}
+use Rattle.rn_assemble.specs.inside.CombinedDefinitions.{AreDefinitions}
 use Rattle.rn_assemble.specs.Firsts.{joined_members}
 use Rattle.rn_assemble.specs.Refusal.{BreaksNameRules}
 use Rattle.rn_assemble.specs.inside.Joining.{IsMisnamed}
@@ -25,7 +28,6 @@ use Rattle.rn_assemble.specs.inside.Keyed.{key_at}
 use Rattle.rn_assemble.specs.inside.Listed.{Live, ListsBy, components_in}
 use Rattle.rn_assemble.specs.inside.Patterns.{IsKeptPattern, IsMisnamedAs, lesser}
 use Rattle.rn_assemble.specs.inside.Trees.{AgreeAt, AgreeElsewhere, TreeView}
-use Rattle.rn_assemble.proofs.Joining.FirstMembers.{tied_more}
 use Rattle.rn_assemble.proofs.Joining.DefinedKeys.{number_name}
 use Rattle.rn_assemble.proofs.Joining.DefinedNames.{defined_has, has_defined}
 use Rattle.rn_assemble.proofs.Joining.KeyPatterns.{breaks_has, misnamed_first, misnamed_for}
@@ -33,6 +35,7 @@ use Rattle.rn_assemble.proofs.Joining.SettlingOrders.{above_start, key_named, ke
 use Rattle.rn_assemble.proofs.Referring.DefinitionNumbers.{nothing}
 use Rattle.rn_assemble.proofs.Referring.KeyNumbers.{keyed_name, same_at}
 use Rattle.rn_assemble.proofs.Referring.LeastKeys.{no_key}
+use Rattle.rn_assemble.proofs.Referring.ListedNames.{names_stay, put_is}
 
 -- ---- the least number noted
 
@@ -54,15 +57,19 @@ lesser_here : (n : ℕ) (least : Option ℕ) → IsSomeAnd (lesser n least) (λ 
 lesser_here n None = omega arith
 lesser_here n (Some m) = let l : min n m ≤ n = omega arith in l
 
+lesser_some : (n : ℕ) (least : Option ℕ) → lesser n least ≡ None → ⊥
+lesser_some n least e = cc
+
 module _ (names : List Text) (cs : List Component) (keys : List ℕ) where
   abbrev key_of : ℕ → ℕ
   key_of i = get_or keys i 0
 
-  -- the definitions of the keys before the index are made or noted, with the first places of their members; the trees of the others are what they were
-  pub record Defining (first now : TreeView) (least : Option ℕ) (entries : List CombinedDefinition) (rows : List (List ℕ)) (i : ℕ) : Type 0 where
-    pub made : least ≡ None → combined_definitions entries ≡ take i (joined_grammar cs).definitions
-    pub size : length rows ≤ length (combined_definitions entries)
-    pub tied : HaveTied rows (combined_definitions entries)
+  -- all names stand there, and the bodies of the keys before the index are made or noted, with the first places of their members; the trees of the others are what they were
+  pub record Defining (first now : TreeView) (least : Option ℕ) (entries : List (String Global × Pattern)) (rows : List (List ℕ)) (i : ℕ) : Type 0 where
+    pub named : map (λ (d : Text × Tree). d.0) (definitions_view entries) ≡ defined_names cs
+    pub made : least ≡ None → (j : ℕ) → j < i → get_or (definitions_view entries) j nothing ≡ get_or (joined_grammar cs).definitions j nothing
+    pub size : length rows ≤ i
+    pub tied : least ≡ None → (j : ℕ) → j < i → AreTied (row rows j) (joined_members (get_or (joined_grammar cs).definitions j nothing).1)
     pub noted : (j : ℕ) → j < i → BreaksNameRules cs (key_at names (key_of j)) → IsSomeAnd least (λ m. m ≤ key_of j)
     pub breaks : IfSome least (λ m. (m < suc (length names)) × BreaksNameRules cs (key_at names m))
     pub left : (j : ℕ) → i ≤ j → j < length keys → AgreeAt first now (key_of j)
@@ -95,17 +102,22 @@ module _ (names : List Text) (cs : List Component) (keys : List ℕ) where
         let c = Contains-get_or (defined_names cs) i [] (omega (arith, l, count)) in
         ap (λ k. has_key k cs) (key_is i l) ∙ defined_has (name_of i) cs c
 
-    pub defining_begins : (first now : TreeView) → ((n : ℕ) → 0 < n → AgreeAt first now n) → Defining first now None [] [] 0
-    defining_begins first now agree = record {
-      made = λ _. refl;
+    -- the name of a key
+    pub key_name : (i : ℕ) → i < length keys → get_or names (key_of i - 1) [] ≡ name_of i
+    key_name i l = keyed_name (get_or names (key_of i - 1) []) (name_of i) (sym (number_name names (key_of i) (key_above i l)) ∙ key_is i l)
+
+    pub defining_begins : (first now : TreeView) (entries : List (String Global × Pattern)) → map (λ (d : Text × Tree). d.0) (definitions_view entries) ≡ defined_names cs → ((n : ℕ) → 0 < n → AgreeAt first now n) → Defining first now None entries [] 0
+    defining_begins first now entries named agree = record {
+      named = named;
+      made = λ _ j l. absurd (omega (arith, l));
       size = omega arith;
-      tied = λ n d l. absurd (omega (arith, l));
+      tied = λ _ j l. absurd (omega (arith, l));
       noted = λ j l b. absurd (omega (arith, l));
       breaks = tt;
       left = λ j g l. agree (key_of j) (key_above j l);
     }
 
-    module _ (first now : TreeView) (least : Option ℕ) (entries : List CombinedDefinition) (rows : List (List ℕ)) (i : ℕ) (l : i < length keys) (h : Defining first now least entries rows i) where
+    module _ (first now : TreeView) (least : Option ℕ) (entries : List (String Global × Pattern)) (rows : List (List ℕ)) (i : ℕ) (l : i < length keys) (h : Defining first now least entries rows i) where
       abbrev key : ℕ
       key = key_of i
 
@@ -116,23 +128,29 @@ module _ (names : List Text) (cs : List Component) (keys : List ℕ) where
       earlier_or_here : (P : ℕ → Type 0) → ((j : ℕ) → j < i → P j) → P i → (j : ℕ) → j < i + 1 → P j
       earlier_or_here P f p j m = elim (cases_lt j i) [ inl earlier ↦ f j earlier | inr late ↦ subst P (let e : i ≡ j = omega (arith, m, late) in e) p ]
 
-      -- the key has a pattern, and its definition is added
-      pub defining_more : (then : TreeView) (rows' : List (List ℕ)) (v : List ℕ) (d : CombinedDefinition) → IsKeptPattern cs (key_at names key) (Some d.pattern) → AgreeElsewhere then now key
-          → d.name.now ≡ get_or names (key - 1) [] → HasRow rows rows' (length entries) v → AreTied v (joined_members (joined_pattern cs (key_at names key))) → Defining first then least (entries ++ d ∷ []) rows' (i + 1)
-      defining_more then rows' v d kept agree name has tied =
-          let x = name_of i in
-          let same : get_or names (key - 1) [] ≡ x = keyed_name (get_or names (key - 1) []) x (sym (number_name names key (key_above i l)) ∙ key_is i l) in
-          let tree : Some (pattern_view d.pattern) ≡ Some (joined_pattern cs (key_at names key)) = kept.0 ∙ ap (λ b. cond b (Some (joined_pattern cs (key_at names key))) None) (key_has i l) in
-          let here : pattern_view d.pattern ≡ joined_pattern cs (key_at names key) = cc in
-          let body : pattern_view d.pattern ≡ joined_pattern cs (name_key x) = here ∙ ap (joined_pattern cs) (key_is i l) in
-          let view : CombinedDefinition → Text × Tree = λ (e : CombinedDefinition). (e.name.now, pattern_view e.pattern) in
-          let added : combined_definitions (entries ++ d ∷ []) ≡ combined_definitions entries ++ view d ∷ [] = map-append view entries (d ∷ []) in
-          let count = length-map entries view in
+      -- the key has a pattern, which is put beside its name
+      pub defining_more : (then : TreeView) (entries' : List (String Global × Pattern)) (rows' : List (List ℕ)) (v : List ℕ) (p : Pattern) → IsKeptPattern cs (key_at names key) (Some p) → AgreeElsewhere then now key
+          → definitions_view entries' ≡ set_value_at (definitions_view entries) i (pattern_view p) → HasRow rows rows' i v → AreTied v (joined_members (joined_pattern cs (key_at names key))) → Defining first then least entries' rows' (i + 1)
+      defining_more then entries' rows' v p kept agree put has tied =
+          let ds = definitions_view entries in
+          let made = (joined_grammar cs).definitions in
+          let d : Text × Tree = ((get_or ds i nothing).0, pattern_view p) in
+          let is : definitions_view entries' ≡ set ds i d = put ∙ put_is ds i (pattern_view p) in
+          let within : i < length ds = omega (arith, l, count, ap length h.named, length-map ds (λ (d : Text × Tree). d.0)) in
+          let name : (get_or ds i nothing).0 ≡ name_of i = sym (get_or-map (λ (d : Text × Tree). d.0) ds i nothing [] within) ∙ ap (λ xs. get_or xs i []) h.named in
+          let tree : Some (pattern_view p) ≡ Some (joined_pattern cs (key_at names key)) = kept.0 ∙ ap (λ b. cond b (Some (joined_pattern cs (key_at names key))) None) (key_has i l) in
+          let here : pattern_view p ≡ joined_pattern cs (key_at names key) = cc in
+          let body : pattern_view p ≡ joined_pattern cs (name_key (name_of i)) = here ∙ ap (joined_pattern cs) (key_is i l) in
+          let of_name : joined_pattern cs (key_at names key) ≡ (get_or made i nothing).1 = ap (joined_pattern cs) (key_is i l) ∙ ap (λ (d : Text × Tree). d.1) (sym (definition_at i l)) in
+          let is_made : get_or (set ds i d) i nothing ≡ get_or made i nothing = get_or-set_same ds i d nothing within ∙ (λ k. (name k, body k)) ∙ sym (definition_at i l) in
           record {
-            made = λ none. added ∙ (λ k. h.made none k ++ ((name ∙ same) k, body k) ∷ []) ∙ ap (λ e. take i (joined_grammar cs).definitions ++ e ∷ []) (sym (definition_at i l))
-                ∙ sym (take_more (joined_grammar cs).definitions i nothing (omega (arith, l, size names cs keys defined)));
-            size = omega (arith, has.within, length_push entries d, length-map (entries ++ d ∷ []) view);
-            tied = subst (HaveTied rows') (sym added) (tied_more rows rows' (combined_definitions entries) v (view d) (subst (λ k. HasRow rows rows' k v) (sym count) has) h.tied (subst (λ t. AreTied v (joined_members t)) (sym here) tied));
+            named = ap (map (λ (d : Text × Tree). d.0)) put ∙ names_stay ds i (pattern_view p) ∙ h.named;
+            made = λ none. subst (λ es. (j : ℕ) → j < i + 1 → get_or es j nothing ≡ get_or made j nothing) (sym is)
+                (earlier_or_here (λ j. get_or (set ds i d) j nothing ≡ get_or made j nothing) (λ j m. get_or-set_other ds i j d nothing (λ at. omega (arith, m, at)) ∙ h.made none j m) is_made);
+            size = omega (arith, has.within);
+            tied = λ none. earlier_or_here (λ j. AreTied (row rows' j) (joined_members (get_or made j nothing).1))
+                (λ j m. subst (λ r. AreTied r (joined_members (get_or made j nothing).1)) (sym (has.kept j m)) (h.tied none j m))
+                (subst (λ r. AreTied r (joined_members (get_or made i nothing).1)) (sym has.is) (subst (λ t. AreTied v (joined_members t)) of_name tied));
             noted = earlier_or_here (λ j. BreaksNameRules cs (key_at names (key_of j)) → IsSomeAnd least (λ m. m ≤ key_of j)) h.noted (λ b. absurd (kept.1 b));
             breaks = h.breaks;
             left = others_left then agree;
@@ -141,9 +159,10 @@ module _ (names : List Text) (cs : List Component) (keys : List ℕ) where
       -- it breaks the restrictions on name classes, and is noted
       pub defining_noted : (then : TreeView) → BreaksNameRules cs (key_at names key) → AgreeElsewhere then now key → Defining first then (lesser key least) entries rows (i + 1)
       defining_noted then breaks agree = record {
-        made = λ none. cc;
-        size = h.size;
-        tied = h.tied;
+        named = h.named;
+        made = λ none. absurd (lesser_some key least none);
+        size = omega (arith, h.size);
+        tied = λ none. absurd (lesser_some key least none);
         noted = earlier_or_here (λ j. BreaksNameRules cs (key_at names (key_of j)) → IsSomeAnd (lesser key least) (λ m. m ≤ key_of j)) (λ j m b. lesser_kept key (key_of j) least (h.noted j m b)) (λ b. lesser_here key least);
         breaks = lesser_all (λ m. (m < suc (length names)) × BreaksNameRules cs (key_at names m)) key least (key_within i l, breaks) h.breaks;
         left = others_left then agree;
@@ -152,7 +171,7 @@ module _ (names : List Text) (cs : List Component) (keys : List ℕ) where
 -- ---- behind the last key
 
 module _ {first : TreeView} (names : List Text) (bodies : List Body) (list : List ℕ) (places : List (List ℕ)) (live : List Live) (lists : ListsBy names first bodies list places live) (o : IsStrictlySortedBy text_cmp names) (start_keeps : ¬ BreaksNameRules (components_in live) start_key)
-    (keys : List ℕ) (defined : AreDefinedKeys names (components_in live) keys) (now : TreeView) (entries : List CombinedDefinition) (firsts : List (Vec ℕ Global)) (i : ℕ) (past : length keys ≤ i) where
+    (keys : List ℕ) (defined : AreDefinedKeys names (components_in live) keys) (now : TreeView) (entries : List (String Global × Pattern)) (firsts : List (Vec ℕ Global)) (i : ℕ) (past : length keys ≤ i) where
   abbrev cs : List Component
   cs = components_in live
 
@@ -171,11 +190,16 @@ module _ {first : TreeView} (names : List Text) (bodies : List Body) (list : Lis
 
   -- all names are defined where none was noted
   pub defining_ends : (least : Option ℕ) → Ends least → least ≡ None → AreDefinitions cs entries firsts
-  defining_ends least h none = record {
-    are = h.made none ∙ take_all i (joined_grammar cs).definitions (omega (arith, past, size names cs keys defined));
-    tied = h.tied;
-    keep = no_key names o (BreaksNameRules cs) (breaks_has names bodies list places live lists o) (λ m l b. subst (λ s. IsSomeAnd s (λ j. j ≤ m)) none (noted_before least h m l b));
-  }
+  defining_ends least h none =
+      let made = (joined_grammar cs).definitions in
+      let all : length made ≤ i = omega (arith, past, size names cs keys defined) in
+      let as_many : length (definitions_view entries) ≡ length made = sym (length-map (definitions_view entries) (λ (d : Text × Tree). d.0)) ∙ ap length h.named ∙ count names cs keys defined ∙ size names cs keys defined in
+      let are : definitions_view entries ≡ made = ext_get_or nothing (definitions_view entries) made as_many (λ j l. h.made none j (omega (arith, l, as_many, all))) in
+      record {
+        are = are;
+        tied = subst (HaveTied (firsts_of firsts)) (sym are) (λ n d l. subst (λ (e : Text × Tree). AreTied (row (firsts_of firsts) n) (joined_members e.1)) (get_or_default made n nothing d l) (h.tied none n (omega (arith, l, all))));
+        keep = no_key names o (BreaksNameRules cs) (breaks_has names bodies list places live lists o) (λ m l b. subst (λ s. IsSomeAnd s (λ j. j ≤ m)) none (noted_before least h m l b));
+      }
 
   -- the noted key is refused
   pub noted_refused : (least : Option ℕ) (q : Refusal) → Ends least → IsSomeAnd least (λ n. n < length names + 1 → IsMisnamedAs (key_at names n) ⊤ q) → IsMisnamed cs q

@@ -76,6 +76,11 @@ body_put [] n e w l = absurd (omega (arith, l))
 body_put (f ∷ es) zero e w l = refl
 body_put (f ∷ es) (suc n) e w l = ap (λ ds. (string_bytes f.0, pattern_view f.1) ∷ ds) (body_put es n e w (omega (arith, l)))
 
+pub put_is : (ds : List (Text × Tree)) (n : ℕ) (p : Tree) → set_value_at ds n p ≡ set ds n ((get_or ds n nothing).0, p)
+put_is [] n p = refl
+put_is (d ∷ ds) zero p = refl
+put_is (d ∷ ds) (suc n) p = ap (λ es. d ∷ es) (put_is ds n p)
+
 pub names_stay : (ds : List (Text × Tree)) (n : ℕ) (p : Tree) → map (λ (d : Text × Tree). d.0) (set_value_at ds n p) ≡ map (λ (d : Text × Tree). d.0) ds
 names_stay [] n p = refl
 names_stay (d ∷ ds) zero p = refl
@@ -106,8 +111,3 @@ pub distinct_by : (ds : List (Text × Tree)) → AreDistinct ds → IsDistinct b
 unfolding IsDistinct
 distinct_by [] h = tt
 distinct_by (d ∷ ds) h = (apart_by d ds h.0, distinct_by ds h.1)
-
--- a list of no length
-pub emptied : {A : Type 0} (xs : List A) → length xs ≡ 0 → xs ≡ []
-emptied [] e = refl
-emptied (x ∷ xs) e = absurd (omega (arith, e))

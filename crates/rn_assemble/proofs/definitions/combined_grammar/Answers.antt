@@ -8,7 +8,7 @@ use Rattle.rn_assemble.specs.Firsts.{joined_members}
 use Rattle.rn_assemble.specs.inside.Joining.{IsCombinedGrammar, IsMisnamed}
 use Rattle.rn_assemble.specs.inside.Listed.{components_in}
 use Rattle.rn_assemble.specs.SettlingOrder.{IsSettlingOrder}
-use Rattle.rn_assemble.specs.inside.CombinedDefinitions.{combined_definitions}
+use Rattle.rn_assemble.specs.DefinitionsView.{definitions_view}
 use Rattle.rn_assemble.specs.inside.Tied.{AreTied}
 use Rattle.rn_assemble.specs.inside.Trees.{trees_by}
 use Rattle.rn_assemble.specs.inside.Views.{names_of}
@@ -61,7 +61,7 @@ invariant_of-result c =
     let held : Some (pattern_view c.unwrap-start.result) ≡ Some (joined_pattern cs start_key) = ap (option_map pattern_view) (sym c.unwrap-start.ensures) ∙ start_tree cs c.in_ok-combine.field-0 kept t in
     let start : pattern_view c.unwrap-start.result ≡ joined_pattern cs start_key = cc in
     let firsts = c.in_ok-start_firsts.start_firsts.items in
-    let same : ◌≡◌ {A = Grammar} (record { start = pattern_view c.unwrap-start.result; definitions = combined_definitions c.in_ok-definitions.definitions.items }) (joined_grammar cs) =
+    let same : ◌≡◌ {A = Grammar} (record { start = pattern_view c.unwrap-start.result; definitions = definitions_view c.in_ok-definitions.definitions.items }) (joined_grammar cs) =
     λ i. record { start = start i; definitions = made.are i } in
     record {
       start_tied = subst (λ p. AreTied firsts (joined_members p)) (sym start) (c.in_ok-start_firsts.ensures trees (names_of c.args.keys.now) live h o (omega arith));

@@ -2,12 +2,11 @@
 use Rattle.std.proofs.Common.{◌≡◌, ◌++◌, length}
 use Rattle.std.specs.Vec.Iter.{into_iter_items, into_iter_len}
 use Rattle.rn_assemble.specs.DefinitionsView.{definitions_view}
-use Rattle.rn_assemble.specs.inside.CombinedView.{combined_definitions}
 use Rattle.rn_assemble.proofs.joined_definitions.definitions_of.Given as goal
 
-abbrev pub invariant-loop-definition : goal.invariant-loop-definition
-invariant-loop-definition l = record {
-  made : definitions_view l.defs.entries ≡ combined_definitions l.yielded;
-  rest : l.yielded ++ into_iter_items l.definition-iterator ≡ l.fn.definitions.items;
-  count : into_iter_len l.definition-iterator ≡ length (into_iter_items l.definition-iterator);
+abbrev pub invariant-loop-name : goal.invariant-loop-name
+invariant-loop-name l = record {
+  made : definitions_view l.defs.entries ≡ definitions_view l.yielded;
+  rest : l.yielded ++ into_iter_items l.name-iterator ≡ l.fn.definitions.items;
+  count : into_iter_len l.name-iterator ≡ length (into_iter_items l.name-iterator);
 }

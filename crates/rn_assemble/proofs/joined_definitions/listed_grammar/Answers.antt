@@ -1,8 +1,9 @@
-use Rattle.std.proofs.Common.{List, sym, subst}
+use Rattle.std.proofs.Common.{List, sym, ap, subst}
 use Rattle.rn_pattern.specs.Matching.{Grammar}
 use Rattle.rn_pattern.specs.Tree.{Tree}
 use Rattle.rn_pattern.specs.View.{pattern_view}
 use Rattle.rn_text.specs.Texts.{Text}
+use Rattle.rn_assemble.specs.DefinitionsView.{definitions_view}
 use Rattle.rn_assemble.specs.SettlingOrder.{IsSettlingOrder}
 use Rattle.rn_assemble.specs.WellFormed.{HasWritableTexts, IsWellFormed}
 use Rattle.rn_assemble.specs.inside.Tied.{HaveTied, firsts_of}
@@ -12,7 +13,7 @@ pub invariant_of-result : goal.invariant_of-result
 invariant_of-result c =
     let g = c.args.combined in
     let of : List (Text × Tree) → Grammar = λ ds. record { start = pattern_view g.start; definitions = ds } in
-    let same = sym c.in_ok-definitions.ensures in
+    let same = ap definitions_view (sym c.list_of.ensures) in
     record {
       start_tied = g.start_tied;
       tied = subst (HaveTied (firsts_of g.firsts.items)) same g.tied;
