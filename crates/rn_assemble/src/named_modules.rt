@@ -1,5 +1,5 @@
 // The effective modules of a set, read.
-ghost use Rattle.std.specs.Prelude.{◌≡◌, IfErr, IfOk, List, MatchResult, length, map};
+ghost use Rattle.std.specs.Prelude.{◌≡◌, [], IfErr, IfOk, List, MatchResult, length, map};
 ghost use Rattle.std.specs.Str.{IsUtf8, chars};
 ghost use Rattle.std.specs.String.{string_bytes};
 ghost use Rattle.rn_text.specs.Tokens.{HasFault, HasTokens, lexeme_of};
@@ -13,7 +13,7 @@ ghost use Rattle.rn_assemble.specs.Refused.{IsFirstRefusal};
 ghost use Rattle.rn_assemble.specs.inside.Views.{AreInOrder, module_names, modules_view, with_items};
 
 use crate::refusal::Refusal;
-use rn_modset::ModuleSet;
+use rn_modset::{Effective, ModuleSet};
 use rn_syntax::{Item, Module, SyntaxFault, parse};
 use rn_text::{TextFault, Token, read_tokens};
 use std::alloc::{AllocError, Global};
@@ -38,13 +38,31 @@ pub(crate) fn read_modules<'a>(
 {
     let effective_modules = set.effective(alloc)?;
     let mut modules = Vec::new(alloc);
-    let mut tokens = Vec::new(alloc);
+    let mut tokens = token_list(alloc, &effective_modules);
     for module in effective_modules.iter() {
         let (name, text) = *module;
         let tree = read_module(alloc, name, text, &mut tokens)?;
         modules.push(NamedModule { name, tree })?;
     }
     Ok(modules)
+}
+
+/// How many bytes a token takes at least, with the white space behind it, in all but the densest texts.
+const TOKEN_BYTES: usize = 3;
+
+/// An empty list for the tokens of these texts, one text after the other. It has memory for those of the longest one, so
+/// that it needn't be copied while it grows; none where that is refused.
+fn token_list<'a>(alloc: Global, modules: &Effective<'a>) -> Vec<Token<'a>>
+    ensures { result.items ≡ [] }
+{
+    let mut longest = 0;
+    for module in modules.iter() {
+        longest = longest.max(module.1.len());
+    }
+    match Vec::with_capacity(alloc, longest / TOKEN_BYTES) {
+        Ok(tokens) => tokens,
+        Err(_) => Vec::new(alloc),
+    }
 }
 
 /// The modules without their items, and the items of each module.
