@@ -38,7 +38,7 @@ pub(crate) fn read_modules<'a>(
 {
     let effective_modules = set.effective(alloc)?;
     let mut modules = Vec::new(alloc);
-    let mut tokens = token_list(alloc, &effective_modules);
+    let mut tokens = token_list(alloc, &effective_modules)?;
     for module in effective_modules.iter() {
         let (name, text) = *module;
         let tree = read_module(alloc, name, text, &mut tokens)?;
@@ -51,18 +51,15 @@ pub(crate) fn read_modules<'a>(
 const TOKEN_BYTES: usize = 3;
 
 /// An empty list for the tokens of these texts, one text after the other. It has memory for those of the longest one, so
-/// that it needn't be copied while it grows; none where that is refused.
-fn token_list<'a>(alloc: Global, modules: &Effective<'a>) -> Vec<Token<'a>>
-    ensures { result.items ≡ [] }
+/// that it needn't be copied while it grows.
+fn token_list<'a>(alloc: Global, modules: &Effective<'a>) -> Result<Vec<Token<'a>>, AllocError>
+    ensures { IfOk result (λ tokens. tokens.items ≡ []) }
 {
     let mut longest = 0;
     for module in modules.iter() {
         longest = longest.max(module.1.len());
     }
-    match Vec::with_capacity(alloc, longest / TOKEN_BYTES) {
-        Ok(tokens) => tokens,
-        Err(_) => Vec::new(alloc),
-    }
+    Vec::with_capacity(alloc, longest / TOKEN_BYTES)
 }
 
 /// The modules without their items, and the items of each module.
