@@ -58,6 +58,7 @@ impl<'r> Likely<'r> {
 }
 
 /// The number of the definition of a name. The likely numbers are tried first.
+#[inline(always)]
 pub(crate) fn find_number(
     definitions: &DefinitionList,
     likely: &mut Likely<'_>,
@@ -73,6 +74,7 @@ pub(crate) fn find_number(
 
 /// The number of the definition of a name: a likely one, or else one that is found by going through the definitions, which
 /// comes to pass only where the name has none.
+#[inline(always)]
 fn number_by_name(
     definitions: &DefinitionList,
     likely: &mut Likely<'_>,
@@ -89,6 +91,7 @@ fn number_by_name(
 
 /// The number whose definition has the name: the next likely one, or one that is likely elsewhere, or the one at the
 /// name's place in the likely order of names.
+#[inline(always)]
 fn find_likely(definitions: &DefinitionList, likely: &mut Likely<'_>, name: &str) -> Option<usize>
     ensures { IfSome result
         (λ k. number_of (definitions_view definitions.now.entries.items) name.now ≡ Some k) }
@@ -104,6 +107,7 @@ fn find_likely(definitions: &DefinitionList, likely: &mut Likely<'_>, name: &str
 
 /// The one of few likely numbers whose definition has the name. Where they are many, the number behind the one that was
 /// found last, if its definition has the name.
+#[inline(never)]
 fn find_elsewhere(definitions: &DefinitionList, likely: &Likely<'_>, name: &str) -> Option<usize>
     ensures { IfSome result
         (λ k. number_of (definitions_view definitions.now.entries.items) name.now ≡ Some k) }
@@ -118,6 +122,7 @@ fn find_elsewhere(definitions: &DefinitionList, likely: &Likely<'_>, name: &str)
 }
 
 /// The next likely number, if its definition has the name. The one behind it is the next one then.
+#[inline(always)]
 fn find_next(definitions: &DefinitionList, likely: &mut Likely<'_>, name: &str) -> Option<usize>
     ensures { IfSome result
         (λ k. number_of (definitions_view definitions.now.entries.items) name.now ≡ Some k) }
@@ -145,6 +150,7 @@ fn find_among(definitions: &DefinitionList, numbers: &[u32], name: &str) -> Opti
 }
 
 /// The number whose definition has the name, among numbers that are likely in the order of the names.
+#[inline(never)]
 fn find_in_order(definitions: &DefinitionList, by_name: &[u32], name: &str) -> Option<usize>
     ensures { IfSome result
         (λ k. number_of (definitions_view definitions.now.entries.items) name.now ≡ Some k) }
@@ -164,6 +170,7 @@ fn is_before(definitions: &DefinitionList, number: usize, name: &str) -> bool {
 }
 
 /// Whether there is a definition with the number, and it has the name.
+#[inline(always)]
 fn is_named(definitions: &DefinitionList, number: usize, name: &str) -> bool
     ensures { IsTrue result
         → number_of (definitions_view definitions.now.entries.items) name.now ≡ Some number }

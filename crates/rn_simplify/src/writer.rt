@@ -58,6 +58,7 @@ impl Writer {
     }
 
     /// Stops if there was no memory for what was to be appended, or if the text has become too large.
+    #[inline(always)]
     fn note_append(&mut self, appended: bool)
         ensures { self.new ≡ record self.old { stopped = stop_behind appended self.old } }
     {
@@ -69,6 +70,7 @@ impl Writer {
     }
 
     /// Appends pieces that are no brackets.
+    #[inline(always)]
     pub(crate) fn put(&mut self, pieces: &str)
         ensures { WritesBytes pieces.now none self.old self.new }
     {
@@ -79,6 +81,7 @@ impl Writer {
     }
 
     /// Appends an opening bracket, with the spaces round it.
+    #[inline(always)]
     pub(crate) fn open_bracket(&mut self, bracket: &str)
         ensures { WritesBytes bracket.now opening self.old self.new }
     {
@@ -91,6 +94,7 @@ impl Writer {
     }
 
     /// Appends a closing bracket, with the spaces round it.
+    #[inline(always)]
     pub(crate) fn close_bracket(&mut self, bracket: &str)
         ensures { WritesBytes bracket.now closing self.old self.new }
     {
@@ -109,6 +113,7 @@ impl Writer {
     }
 
     /// Appends a definition's name, behind a backslash if it is a keyword.
+    #[inline(always)]
     pub(crate) fn put_identifier(&mut self, name: &str)
         ensures { WritesBytes (if is_keyword (chars name.now) then 92 ∷ name.now else name.now) none
             self.old self.new }
