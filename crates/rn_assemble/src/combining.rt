@@ -56,6 +56,7 @@ impl Combining {
 
     /// The pattern of a key's components combined, `None` for a key that has none. `NameClass` names the key where one
     /// of them breaks the restrictions on name classes. Their trees are given up.
+    #[inline(always)]
     pub fn combine(
         &mut self,
         alloc: Global,
@@ -100,6 +101,7 @@ impl Combining {
     /// The pattern of a key's components combined, as [`Combining::combine`] answers it; but a key one of whose
     /// components breaks the restrictions on name classes has none and is noted, since a lesser one may come. The only
     /// error is want of memory.
+    #[inline(always)]
     pub fn combine_or_note(
         &mut self,
         alloc: Global,
@@ -193,6 +195,7 @@ fn give_up_tree(
 }
 
 /// The pattern of the key's first component, whose tree is given up.
+#[inline(always)]
 fn combine_one(
     alloc: Global,
     keys: &Keys<'_>,
@@ -348,6 +351,7 @@ fn share_body(
 }
 
 /// The pattern of a body that keeps the restrictions on name classes.
+#[inline(always)]
 fn resolve_body(
     alloc: Global,
     keys: &Keys<'_>,

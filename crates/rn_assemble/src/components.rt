@@ -184,6 +184,7 @@ impl<'c, 't, 's> Components<'c, 't, 's> {
     }
 
     /// How many components a key has.
+    #[inline(always)]
     pub fn count_of(&self, key: usize) -> usize
         ensures { result ≡ length (row self.now.places.items key) }
     {
@@ -194,6 +195,7 @@ impl<'c, 't, 's> Components<'c, 't, 's> {
     }
 
     /// The place of the first component of a key.
+    #[inline(always)]
     pub fn first_of(&self, key: usize) -> Option<usize>
         ensures { result ≡ slice_get (row self.now.places.items key) 0 }
     {
@@ -201,6 +203,7 @@ impl<'c, 't, 's> Components<'c, 't, 's> {
     }
 
     /// The number of the body of a key's component, by its index among those of the key.
+    #[inline(always)]
     pub fn body_of(&self, key: usize, index: usize, near: &mut Near) -> Option<usize>
         ensures { result ≡ body_of self.now.list (row self.now.places.items key) index }
     {
@@ -246,6 +249,7 @@ impl<'c, 't, 's> Components<'c, 't, 's> {
     }
 
     /// The body of that number.
+    #[inline(always)]
     pub fn body(&self, number: usize, near: &mut Near) -> Option<Body<'c, 't>>
         ensures { result ≡ slice_get self.now.bodies number }
     {
@@ -253,6 +257,7 @@ impl<'c, 't, 's> Components<'c, 't, 's> {
     }
 
     /// The number of the body of the component at that place.
+    #[inline(always)]
     pub fn body_at(&self, place: usize, near: &mut Near) -> Option<usize>
         ensures { result ≡ slice_get self.now.list place }
     {

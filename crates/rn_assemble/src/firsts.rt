@@ -32,6 +32,7 @@ impl Components<'_, '_, '_> {
 
     /// For each component of the key, the index in its list of the first with the same body. It is empty where no body
     /// stands twice, and where an index takes more than 32 bits. What was met of other keys does no harm.
+    #[inline(always)]
     pub fn firsts(&self, alloc: Global, key: usize, met: &mut Met) -> Result<Vec<u32>, AllocError>
         ensures { AtKey self.now key (λ k cs.
             IfOk result (λ firsts. AreTied firsts.items (joined_members (joined_pattern cs k)))) }

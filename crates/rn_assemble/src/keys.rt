@@ -115,6 +115,7 @@ impl<'s> Keys<'s> {
     }
 
     /// Whether the number is that of the name.
+    #[inline(always)]
     fn is_named(&self, number: usize, name: &str) -> bool
         ensures { IsTrue result → IsNameNumber (names_of self.now) name.now number }
     {

@@ -7,7 +7,7 @@ ghost use Rattle.rn_pattern.specs.View.{parameters_view, pattern_view, shared_vi
 
 use crate::constants::Constants;
 use rn_pattern::boxes::{new_box, new_shared};
-use rn_pattern::{Data, Pattern, Value};
+use rn_pattern::{Data, Pattern, SmallString, Value};
 use std::alloc::{AllocError, Global};
 use std::rc::{Rc, RcStr};
 
@@ -92,7 +92,7 @@ pub(crate) fn one_or_more(alloc: Global, content: Pattern) -> Result<Pattern, Al
 pub(crate) fn reference(alloc: Global, name: &str) -> Result<Pattern, AllocError>
     ensures { IfOk result (λ p. pattern_view p ≡ tree.ref name.now) }
 {
-    Ok(Pattern::Ref(copy_text(alloc, name)?))
+    Ok(Pattern::Ref(SmallString::from_str(alloc, name)?))
 }
 
 /// The pattern, to be a member of a list. All that are `empty` share one, and so do all that are `text`.

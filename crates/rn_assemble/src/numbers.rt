@@ -41,6 +41,7 @@ impl Numbers {
     }
 
     /// How many numbers there are.
+    #[inline(always)]
     pub fn len(&self) -> usize
         ensures { result ≡ length self.now }
     {

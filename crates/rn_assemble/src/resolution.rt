@@ -18,7 +18,7 @@ use crate::nodes::{
     optional_pattern, reference, typed_datum, typed_value,
 };
 use rn_pattern::boxes::new_box;
-use rn_pattern::{NameClass, Pattern};
+use rn_pattern::{NameClass, Pattern, SmallString};
 use rn_syntax::{AnyName, Data, Datatype, Name, Nc, Operator, Param, Pat, Postfix, Value};
 use std::alloc::{AllocError, Global};
 use std::rc::{Rc, RcStr};
@@ -33,10 +33,13 @@ fn name(
         ≡ resolve.resolved_name inherited ds (rc_str_bytes own.now) (seen.name_view name.now))) }
 {
     match name {
-        Name::Local(local) => Ok(NameClass::Name(own.clone()?, copy_text(alloc, local)?)),
+        Name::Local(local) => Ok(NameClass::Name(
+            own.clone()?,
+            SmallString::from_str(alloc, local)?,
+        )),
         Name::Prefixed(prefix, local) => Ok(NameClass::Name(
             context.namespace(prefix.name).clone()?,
-            copy_text(alloc, local)?,
+            SmallString::from_str(alloc, local)?,
         )),
     }
 }

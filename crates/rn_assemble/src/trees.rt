@@ -51,6 +51,7 @@ impl<'s> Trees<'s> {
     }
 
     /// The tree of that number, of a component with this key; none where it was given up.
+    #[inline(always)]
     pub fn tree(&self, key: usize, number: usize) -> Option<&Pat<'s>>
         ensures { option_map_or (λ p. pattern_view p.now) result empty
             ≡ trees_by self.now.trees.items key number }
@@ -66,6 +67,7 @@ impl<'s> Trees<'s> {
     }
 
     /// Gives up the tree of that number, of a component with this key.
+    #[inline(always)]
     pub fn give_up(&mut self, key: usize, number: usize)
         ensures others { AgreeElsewhere (trees_by self.new.trees.items)
             (trees_by self.old.trees.items) key }

@@ -13,7 +13,7 @@ abbrev pub node_view : {I : Type 0} → (I → Tree) → Node I → Tree
 node_view at Node.NotAllowed = tree.not_allowed
 node_view at Node.Empty = tree.empty
 node_view at Node.Text = tree.text
-node_view at (Node.Ref x) = tree.ref (string_bytes x)
+node_view at (Node.Ref x) = tree.ref x
 node_view at (Node.Value l x t) = tree.value (rc_str_bytes l) (string_bytes x) (string_bytes t)
 node_view at (Node.Datum l x ps None) = tree.datum (rc_str_bytes l) (string_bytes x) (parameters_view ps.items)
 node_view at (Node.Datum l x ps (Some i)) = tree.datum_but (rc_str_bytes l) (string_bytes x) (parameters_view ps.items) (at i)

@@ -16,7 +16,7 @@ name_class_step (NameClass-F.AnyName None) = tree.any_name
 name_class_step (NameClass-F.AnyName (Some c)) = tree.any_name_but c.value
 name_class_step (NameClass-F.NsName u None) = tree.ns_name (rc_str_bytes u)
 name_class_step (NameClass-F.NsName u (Some c)) = tree.ns_name_but (rc_str_bytes u) c.value
-name_class_step (NameClass-F.Name u l) = tree.name (rc_str_bytes u) (string_bytes l)
+name_class_step (NameClass-F.Name u l) = tree.name (rc_str_bytes u) l
 name_class_step (NameClass-F.Choice cs) = tree.name_choice (name_trees_of cs.items)
 
 abbrev pub name_class_view : NameClass → NameTree
@@ -29,7 +29,7 @@ abbrev pub pattern_step : Pattern-F Tree → Tree
 pattern_step Pattern-F.NotAllowed = tree.not_allowed
 pattern_step Pattern-F.Empty = tree.empty
 pattern_step Pattern-F.Text = tree.text
-pattern_step (Pattern-F.Ref x) = tree.ref (string_bytes x)
+pattern_step (Pattern-F.Ref x) = tree.ref x
 pattern_step (Pattern-F.Value v) = tree.value (rc_str_bytes v.value.library) (string_bytes v.value.type_name) (string_bytes v.value.text)
 pattern_step (Pattern-F.Datum d None) = tree.datum (rc_str_bytes d.value.library) (string_bytes d.value.type_name) (parameters_view d.value.params.items)
 pattern_step (Pattern-F.Datum d (Some p)) = tree.datum_but (rc_str_bytes d.value.library) (string_bytes d.value.type_name) (parameters_view d.value.params.items) p.value

@@ -12,4 +12,5 @@ pub mod Count
 pub mod Marking
 pub mod RowEnds
 pub mod Searching
+pub mod HeldText
 pub mod Walks

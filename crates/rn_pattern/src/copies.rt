@@ -24,7 +24,7 @@ impl NameClass {
             NameClass::NsName(uri, Some(except)) => {
                 NameClass::NsName(uri.clone()?, Some(boxed_class(alloc, except)?))
             }
-            NameClass::Name(uri, local) => NameClass::Name(uri.clone()?, local.clone()?),
+            NameClass::Name(uri, local) => NameClass::Name(uri.clone()?, local.try_clone()?),
             NameClass::Choice(members) => NameClass::Choice(copy_classes(alloc, members)?),
         })
     }
@@ -60,7 +60,7 @@ impl Pattern {
             Pattern::NotAllowed => Ok(Pattern::NotAllowed),
             Pattern::Empty => Ok(Pattern::Empty),
             Pattern::Text => Ok(Pattern::Text),
-            Pattern::Ref(name) => Ok(Pattern::Ref(name.clone()?)),
+            Pattern::Ref(name) => Ok(Pattern::Ref(name.try_clone()?)),
             Pattern::Value(value) => value_of(alloc, value),
             Pattern::Datum(data, None) => data_over(alloc, data, None),
             Pattern::Datum(data, Some(except)) => {

@@ -41,7 +41,7 @@ impl Hash for Node<NodeId> {
         state.write_u8(rank(self));
         match self {
             Node::NotAllowed | Node::Empty | Node::Text => {}
-            Node::Ref(name) => name.hash(state),
+            Node::Ref(name) => name.as_str().hash(state),
             Node::Value(library, type_name, text) => {
                 library.hash(state);
                 type_name.hash(state);
@@ -108,7 +108,7 @@ fn hash_name_class<H: Hasher>(class: &NameClass, state: &mut H)
         NameClass::Name(uri, local) => {
             state.write_u8(4);
             uri.hash(state);
-            local.hash(state);
+            local.as_str().hash(state);
         }
         NameClass::Choice(members) => {
             state.write_u8(5);

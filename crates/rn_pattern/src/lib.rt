@@ -39,6 +39,7 @@ pub mod references;
 pub mod rows;
 mod search;
 pub mod seed;
+pub mod small_string;
 pub mod steps;
 mod store;
 pub mod tree;
@@ -51,6 +52,7 @@ pub use plain::Plain;
 pub use references::{NodeReferences, Reach, ReferenceRows};
 pub use rows::Rows;
 pub use seed::Seed;
+pub use small_string::SmallString;
 pub use tree::{Data, NameClass, Pattern, Value};
 
 pub mod examples;

@@ -31,7 +31,7 @@ impl NameClass {
                     Ok(NameClass::NsName(uri.clone()?, Some(Box::new(alloc, except)?)))
                 }
             },
-            NameClass::Name(uri, local) => Ok(NameClass::Name(uri.clone()?, local.clone()?)),
+            NameClass::Name(uri, local) => Ok(NameClass::Name(uri.clone()?, local.try_clone()?)),
             NameClass::Choice(members) => {
                 let mut parts = Vec::new(alloc);
                 push_parts(alloc, members, &mut parts)?;

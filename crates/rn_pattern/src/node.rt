@@ -1,4 +1,5 @@
 // Nodes of a store, and the ids that name them.
+use crate::small_string::SmallString;
 use crate::tree::NameClass;
 use std::rc::RcStr;
 
@@ -16,7 +17,7 @@ pub enum Node<Id> {
     /// Any strings.
     Text,
     /// The name of a definition.
-    Ref(String),
+    Ref(SmallString),
     /// The datatype library, the type and the text. The library is shared by all nodes of a store.
     Value(RcStr, String, String),
     /// The datatype library, the type, its parameters and what is excepted. The library is shared by all nodes of a

@@ -55,7 +55,7 @@ fn heads_of(node: &Node<NodeId>) -> Heads<'_>
     let bare = bare_heads(rank(node));
     match node {
         Node::Ref(name) => Heads {
-            name_or_library: name,
+            name_or_library: name.as_str(),
             ..bare
         },
         Node::Value(library, type_name, text) => Heads {

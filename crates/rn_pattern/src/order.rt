@@ -36,7 +36,7 @@ impl NameClass {
                 order => order,
             },
             (NameClass::Name(u, l), NameClass::Name(v, m)) => match u.cmp(v) {
-                Ordering::Equal => l.cmp(m),
+                Ordering::Equal => l.as_str().cmp(m.as_str()),
                 order => order,
             },
             (NameClass::Choice(cs), NameClass::Choice(ds)) => compare_name_classes(cs, ds),
@@ -103,7 +103,7 @@ impl Pattern {
         let bare = bare_heads(self.rank());
         match self {
             Pattern::Ref(name) => Heads {
-                name_or_library: name,
+                name_or_library: name.as_str(),
                 ..bare
             },
             Pattern::Value(value) => Heads {

@@ -39,6 +39,7 @@ impl NodeReferences {
     }
 
     /// Takes all references out. Their memory is kept.
+    #[inline(always)]
     pub fn clear(&mut self)
         ensures everywhere { self.new.everywhere.items ≡ [] }
         ensures outside { self.new.outside.items ≡ [] }
@@ -49,6 +50,7 @@ impl NodeReferences {
 
     /// Adds a reference to the node with a number, where `reach` is the narrowest reach that takes the reference in.
     /// The only error is want of memory.
+    #[inline(always)]
     pub fn add(&mut self, number: usize, reach: Reach) -> Result<(), AllocError>
         ensures everywhere { OnOk result (self.new.everywhere.items
             ≡ self.old.everywhere.items ++ number ∷ []) }
@@ -88,6 +90,7 @@ impl ReferenceRows {
     }
 
     /// Adds the references of the next node. The only error is want of memory.
+    #[inline(always)]
     pub fn push_row(&mut self, references: &NodeReferences) -> Result<(), AllocError>
         ensures everywhere { OnOk result (rows_of self.new.everywhere
             ≡ rows_of self.old.everywhere ++ references.now.everywhere.items ∷ []) }

@@ -50,6 +50,7 @@ impl Rows {
     }
 
     /// The nodes that the edges of a node lead to.
+    #[inline(always)]
     pub fn row(&self, node: usize) -> &[usize]
         requires { node < length (rows_of self.now) }
         ensures { result.now ≡ row (rows_of self.now) node }
@@ -59,6 +60,7 @@ impl Rows {
     }
 
     /// Where the row of a node begins and ends.
+    #[inline(always)]
     fn range_of(&self, node: usize) -> (usize, usize)
         requires { node < length (rows_of self.now) }
         ensures ordered { result.0 ≤ result.1 }
@@ -70,6 +72,7 @@ impl Rows {
     }
 
     /// Where the row of a node begins, or the one behind all rows.
+    #[inline(always)]
     fn begin_of(&self, node: usize) -> usize
         requires { node ≤ vec_len self.now.ends }
         ensures { result ≡ slice_index_or (0 ∷ self.now.ends.items) node 0 }
@@ -79,6 +82,7 @@ impl Rows {
 
     /// Adds a row of these nodes. What was added to a row that has not ended is dropped. The only error is want of
     /// memory; it leaves the rows that there are.
+    #[inline(always)]
     pub fn push_row(&mut self, row: &[usize]) -> Result<(), AllocError>
         ensures rows { OnOk result (rows_of self.new ≡ rows_of self.old ++ row.now ∷ []) }
         ensures open { OnOk result (open_row self.new ≡ []) }
@@ -90,6 +94,7 @@ impl Rows {
     }
 
     /// Drops the row that has not ended.
+    #[inline(always)]
     fn drop_open(&mut self)
         ensures rows { rows_of self.new ≡ rows_of self.old }
         ensures open { open_row self.new ≡ [] }
@@ -99,6 +104,7 @@ impl Rows {
     }
 
     /// Adds nodes to the row that has not ended.
+    #[inline(always)]
     fn add_all(&mut self, nodes: &[usize]) -> Result<(), AllocError>
         ensures rows { rows_of self.new ≡ rows_of self.old }
         ensures open { OnOk result (open_row self.new ≡ open_row self.old ++ nodes.now) }
@@ -110,6 +116,7 @@ impl Rows {
     }
 
     /// Adds a node to the row that has not ended. The only error is want of memory; it leaves all as it was.
+    #[inline(always)]
     pub fn add(&mut self, node: usize) -> Result<(), AllocError>
         ensures rows { rows_of self.new ≡ rows_of self.old }
         ensures open { OnOk result (open_row self.new ≡ open_row self.old ++ node ∷ []) }
@@ -121,6 +128,7 @@ impl Rows {
 
     /// Ends the row of the nodes that were added since the last end. The only error is want of memory; it leaves all as
     /// it was.
+    #[inline(always)]
     pub fn end_row(&mut self) -> Result<(), AllocError>
         ensures rows { OnOk result (rows_of self.new ≡ rows_of self.old ++ open_row self.old ∷ []) }
         ensures open { OnOk result (open_row self.new ≡ []) }

@@ -88,6 +88,7 @@ fn begin(alloc: Global, edges: &Rows) -> Result<Search, AllocError>
 }
 
 /// Puts a new node on the stack, as a group of its own.
+#[inline(always)]
 fn enter(search: &mut Search, edges: &Rows, node: usize) -> Result<(), AllocError>
     requires grouping { Grouping (rows_of edges.now) search.old }
     requires within { node < length (rows_of edges.now) }
@@ -107,6 +108,7 @@ fn enter(search: &mut Search, edges: &Rows, node: usize) -> Result<(), AllocErro
 
 /// Leaves an edge of the node at the place, which leads to a closed node or into the node's own group, or to one behind
 /// it.
+#[inline(always)]
 fn pass(search: &mut Search, edges: &Rows, place: usize)
     requires grouping { Grouping (rows_of edges.now) search.old }
     requires within { place < vec_len search.old.stack }
@@ -148,6 +150,7 @@ fn unite_groups(search: &mut Search, edges: &Rows, place: usize, other: usize)
 }
 
 /// Leaves the last node of the path, which has no edge left.
+#[inline(always)]
 fn leave(search: &mut Search, edges: &Rows, place: usize)
     requires grouping { Grouping (rows_of edges.now) search.old }
     requires last { EndsWith search.old.path.items place }
@@ -220,6 +223,7 @@ fn least_with(search: &Search, edges: &Rows, begin: usize) -> Option<usize>
 }
 
 /// Closes the last group, of which no edge is left, and ranks it.
+#[inline(always)]
 fn close(search: &mut Search, edges: &Rows, begin: usize)
     requires grouping { Grouping (rows_of edges.now) search.old }
     requires last { EndsWith search.old.bounds.items begin }
@@ -266,6 +270,7 @@ fn node_of(search: &Search, edges: &Rows, place: usize) -> usize
 }
 
 /// Whether the node was met, and if so, whether its group is closed.
+#[inline(always)]
 fn stage_of(search: &Search, edges: &Rows, node: usize) -> Stage
     requires grouping { Grouping (rows_of edges.now) search.now }
     requires within { node < length (rows_of edges.now) }
@@ -283,6 +288,7 @@ fn stage_of(search: &Search, edges: &Rows, node: usize) -> Stage
 
 /// One step of the search: looks at the next edge of the last group, leaves a node with no edge left, or closes the
 /// group.
+#[inline(always)]
 fn step(search: &mut Search, edges: &Rows) -> Result<(), AllocError>
     requires graph { IsGraph (rows_of edges.now) }
     requires grouping { Grouping (rows_of edges.now) search.old }
@@ -308,6 +314,7 @@ fn step(search: &mut Search, edges: &Rows) -> Result<(), AllocError>
 }
 
 /// Searches until each group is closed.
+#[inline(always)]
 fn run(search: &mut Search, edges: &Rows) -> Result<(), AllocError>
     requires graph { IsGraph (rows_of edges.now) }
     requires grouping { Grouping (rows_of edges.now) search.old }
@@ -321,6 +328,7 @@ fn run(search: &mut Search, edges: &Rows) -> Result<(), AllocError>
 }
 
 /// Searches all that the root leads to, if it was not met yet.
+#[inline(always)]
 fn visit(search: &mut Search, edges: &Rows, root: usize) -> Result<(), AllocError>
     requires graph { IsGraph (rows_of edges.now) }
     requires within { root < length (rows_of edges.now) }

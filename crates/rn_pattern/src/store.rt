@@ -15,6 +15,7 @@ use crate::canonical::{self, Reduced};
 use crate::node::{Node, NodeId};
 use crate::node_table::NodeTable;
 use crate::pattern_store::Patterns;
+use crate::small_string::SmallString;
 use crate::tree::NameClass;
 use std::alloc::{AllocError, Global};
 use std::rc::RcStr;
@@ -88,7 +89,7 @@ impl<S: NodeStore> Patterns for S {
     }
 
     fn reference(&mut self, name: &str) -> Result<NodeId, AllocError> {
-        let name = String::from_str(self.allocator(), name)?;
+        let name = SmallString::from_str(self.allocator(), name)?;
         self.add(Node::Ref(name))
     }
 

@@ -1,4 +1,5 @@
 // Patterns and name classes whose names are resolved.
+use crate::small_string::SmallString;
 use std::rc::{Rc, RcStr};
 
 /// A name class. Namespaces and local names are UTF-8. A namespace is shared by all names that are made of one binding,
@@ -10,7 +11,7 @@ pub enum NameClass {
     /// Every name of a namespace, without those of the except.
     NsName(RcStr, Option<Box<NameClass>>),
     /// A namespace and a local name.
-    Name(RcStr, String),
+    Name(RcStr, SmallString),
     /// The names of each member, of which there are two or more.
     Choice(Vec<NameClass>),
 }
@@ -48,7 +49,7 @@ pub enum Pattern {
     /// Any strings (6.2.4).
     Text,
     /// The name of a definition.
-    Ref(String),
+    Ref(SmallString),
     /// A string that its datatype takes as equal to the value (6.2.8).
     Value(Box<Value>),
     /// Data, and what is excepted of it (6.2.8).

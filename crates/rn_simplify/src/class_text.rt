@@ -28,7 +28,7 @@ pub(crate) fn write_class(writer: &mut Writer, prefixes: &Prefixes, class: &Name
             writer.put(" - ");
             write_class_operand(writer, prefixes, except);
         }
-        NameClass::Name(uri, local) => write_name(writer, prefixes, uri, local),
+        NameClass::Name(uri, local) => write_name(writer, prefixes, uri, local.as_str()),
         NameClass::Choice(members) => write_class_choice(writer, prefixes, members),
     }
 }

@@ -114,7 +114,7 @@ fn evaluate_pattern(
     match pattern {
         Pattern::NotAllowed => FormKind::NotAllowed,
         Pattern::Empty => FormKind::Empty,
-        Pattern::Ref(name) => settled.kind_of(likely, name),
+        Pattern::Ref(name) => settled.kind_of(likely, name.as_str()),
         Pattern::List(content) | Pattern::Attribute(_, content) => {
             evaluate_pattern(settled, likely, content).around()
         }

@@ -14,7 +14,7 @@ use crate::settled_definitions::SettledDefinitions;
 use crate::tree_forms::{form_of, is_not_allowed, is_single_class, list_form};
 use rn_pattern::boxes::new_shared;
 use rn_pattern::steps::{attribute_over, element_over, list_over, one_or_more_over};
-use rn_pattern::{Data, NameClass, Pattern};
+use rn_pattern::{Data, NameClass, Pattern, SmallString};
 use std::alloc::{AllocError, Global};
 use std::mem;
 use std::rc::Rc;
@@ -72,11 +72,11 @@ pub(crate) fn owned_form(
 fn owned_reference(
     settled: &SettledDefinitions<'_>,
     likely: &mut Likely<'_>,
-    name: String,
+    name: SmallString,
 ) -> Pattern
-    ensures { pattern_view result ≡ becomes settled.now (string_bytes name) }
+    ensures { pattern_view result ≡ becomes settled.now name }
 {
-    match settled.kind_of(likely, &name) {
+    match settled.kind_of(likely, name.as_str()) {
         FormKind::NotAllowed => Pattern::NotAllowed,
         FormKind::Empty => Pattern::Empty,
         FormKind::Other => Pattern::Ref(name),

@@ -25,7 +25,7 @@ pub(crate) fn write_pattern(writer: &mut Writer, prefixes: &Prefixes, pattern: &
         Pattern::NotAllowed => writer.put("notAllowed"),
         Pattern::Empty => writer.put("empty"),
         Pattern::Text => writer.put("text"),
-        Pattern::Ref(name) => writer.put_identifier(name),
+        Pattern::Ref(name) => writer.put_identifier(name.as_str()),
         Pattern::Value(value) => write_value(writer, prefixes, value),
         Pattern::Datum(data, except) => {
             write_data(writer, prefixes, data);

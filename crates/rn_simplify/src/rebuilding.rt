@@ -55,7 +55,7 @@ fn leaf_pattern<Id>(alloc: Global, node: &Node<Id>) -> Result<Pattern, AllocErro
         Node::NotAllowed => Ok(Pattern::NotAllowed),
         Node::Empty => Ok(Pattern::Empty),
         Node::Text => Ok(Pattern::Text),
-        Node::Ref(name) => Ok(Pattern::Ref(name.clone()?)),
+        Node::Ref(name) => Ok(Pattern::Ref(name.try_clone()?)),
         Node::Value(library, type_name, text) => value_pattern(alloc, library, type_name, text),
         _ => unreachable!(),
     }

@@ -37,7 +37,7 @@ fn add_pattern(
         (definitions_view definitions.now.entries.items) (pattern_view pattern.now)) }
 {
     match pattern {
-        Pattern::Ref(name) => add_name(found, definitions, likely, name),
+        Pattern::Ref(name) => add_name(found, definitions, likely, name.as_str()),
         Pattern::Datum(_, Some(content)) => add_pattern(found, definitions, likely, content),
         Pattern::List(content)
         | Pattern::Attribute(_, content)

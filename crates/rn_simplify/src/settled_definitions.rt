@@ -24,6 +24,7 @@ impl SettledDefinitions<'_> {
 
     /// The kind of the form of the definition of a name. The likely numbers are tried first. The reference to a name
     /// without a definition stays.
+    #[inline(always)]
     pub(crate) fn kind_of(&self, likely: &mut Likely<'_>, name: &str) -> FormKind
         ensures { result ≡ kind_in self.now name.now }
     {

@@ -94,7 +94,7 @@ fn leaf_form<P: Patterns>(
         Pattern::NotAllowed => store.not_allowed(),
         Pattern::Empty => store.empty(),
         Pattern::Text => store.text(),
-        Pattern::Ref(name) => reference_form(store, settled, name),
+        Pattern::Ref(name) => reference_form(store, settled, name.as_str()),
         Pattern::Value(value) => store.value(&value.library, &value.type_name, &value.text),
         _ => unreachable!(),
     }

@@ -104,7 +104,7 @@ fn leaf_form(
         ≡ settled_form settled.now (pattern_view pattern.now) }
 {
     match pattern {
-        Pattern::Ref(name) => reference_form(settled, likely, name),
+        Pattern::Ref(name) => reference_form(settled, likely, name.as_str()),
         _ => None,
     }
 }

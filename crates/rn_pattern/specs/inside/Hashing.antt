@@ -154,7 +154,7 @@ places_writes is = flat_map fed.usize (map (λ i. i.0) is)
 
 -- what is hashed of a node behind the number of its kind
 abbrev pub parts_writes : Node NodeId → List (List ℕ)
-parts_writes (Node.Ref x) = fed.str (string_bytes x)
+parts_writes (Node.Ref x) = fed.str x
 parts_writes (Node.Value l x t) = fed.str (rc_str_bytes l) ++ (fed.str (string_bytes x) ++ fed.str (string_bytes t))
 parts_writes (Node.Datum l x ps e) = fed.str (rc_str_bytes l) ++ (fed.str (string_bytes x) ++ (parameters_writes (parameters_view ps.items) ++ places_writes (option_to_list e)))
 parts_writes (Node.List i) = fed.usize i.0

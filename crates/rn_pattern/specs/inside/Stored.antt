@@ -74,7 +74,7 @@ node_rank (Node.Interleave is) = 11
 node_rank (Node.Choice is) = 12
 
 abbrev pub node_texts : {I : Type 0} → Node I → List Text
-node_texts (Node.Ref x) = string_bytes x ∷ [] ∷ [] ∷ []
+node_texts (Node.Ref x) = x ∷ [] ∷ [] ∷ []
 node_texts (Node.Value l x t) = rc_str_bytes l ∷ string_bytes x ∷ string_bytes t ∷ []
 node_texts (Node.Datum l x ps e) = rc_str_bytes l ∷ string_bytes x ∷ [] ∷ []
 node_texts n = [] ∷ [] ∷ [] ∷ []
