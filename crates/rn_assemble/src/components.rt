@@ -132,6 +132,7 @@ impl<'c, 't, 's> Components<'c, 't, 's> {
 
     /// Adds the module's components numbered from `from` up to, but not including, `to`; `first` is the number of its
     /// first body in this context.
+    #[inline(always)]
     pub fn add(
         &mut self,
         content: &Contents<'t, 's>,
@@ -161,6 +162,7 @@ impl<'c, 't, 's> Components<'c, 't, 's> {
     }
 
     /// Adds the component of a key with this body.
+    #[inline(always)]
     fn place(&mut self, key: usize, body: usize) -> Result<(), AllocError>
         ensures kept { KeepsBodies self.old self.new }
         ensures lack { self.new.lack ≡ self.old.lack }

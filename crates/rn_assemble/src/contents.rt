@@ -177,6 +177,7 @@ fn gather_item<'t, 's>(
 }
 
 /// Adds a component, and its tree.
+#[inline(always)]
 fn push_component<'t, 's>(
     contents: &mut Contents<'t, 's>,
     trees: &mut Trees<'s>,

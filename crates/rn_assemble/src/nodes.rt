@@ -111,6 +111,7 @@ pub(crate) fn new_member(
 }
 
 /// The two patterns as the members of a list.
+#[inline(always)]
 fn pair_members(
     alloc: Global,
     first: Rc<Pattern>,
@@ -144,6 +145,7 @@ pub(crate) fn choice(members: Vec<Rc<Pattern>>) -> Pattern
 }
 
 /// The choice of the pattern and empty.
+#[inline(always)]
 pub(crate) fn optional_pattern(
     alloc: Global,
     constants: &Constants,

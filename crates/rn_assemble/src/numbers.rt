@@ -74,6 +74,7 @@ impl Numbers {
     }
 
     /// Adds a number at the end. The list is as it was where memory is wanting.
+    #[inline(always)]
     pub fn push(&mut self, number: usize) -> Result<(), AllocError>
         ensures pushed { IfOk result (λ _. self.new ≡ self.old ++ number ∷ []) }
         ensures kept { IfErr result (λ _. self.new ≡ self.old) }

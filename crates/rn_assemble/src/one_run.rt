@@ -50,6 +50,7 @@ impl OneRun {
     }
 
     /// Adds a number at the end, if the run goes on with it. It may begin with any.
+    #[inline(always)]
     pub fn push(&mut self, number: usize) -> bool
         ensures pushed { IsTrue result → self.new ≡ self.old ++ number ∷ [] }
         ensures kept { result ≡ false → self.new ≡ self.old }

@@ -23,6 +23,7 @@ use rn_syntax::{AnyName, Data, Datatype, Name, Nc, Operator, Param, Pat, Postfix
 use std::alloc::{AllocError, Global};
 use std::rc::{Rc, RcStr};
 
+#[inline(always)]
 fn name(
     alloc: Global,
     context: Context<'_, '_>,

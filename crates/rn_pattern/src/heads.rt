@@ -54,6 +54,7 @@ fn compare_classes(x: Option<&NameClass>, y: Option<&NameClass>) -> Ordering
 
 /// The order of patterns by their heads. Most patterns that are compared differ in their kind, name class or first
 /// text.
+#[inline(always)]
 pub fn compare_heads(x: Heads, y: Heads) -> Ordering
     ensures { result ≡ heads_cmp x.entry y.entry }
 {

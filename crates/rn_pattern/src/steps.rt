@@ -158,6 +158,7 @@ fn has_not_allowed(members: &[Rc<Pattern>]) -> bool
 
 /// The members of a list of the parts, with those of the lists of its kind among them. Where there are no such lists,
 /// it is the parts themselves.
+#[inline(always)]
 fn open_members(
     alloc: Global,
     connector: Connector,
@@ -225,6 +226,7 @@ fn sort_without_repeats(mut members: Vec<Rc<Pattern>>) -> Result<Vec<Rc<Pattern>
 }
 
 /// A list of the members; the member itself if there is one, and what an empty list stands for if there is none.
+#[inline(always)]
 fn pattern_of_members(
     alloc: Global,
     connector: Connector,

@@ -37,6 +37,7 @@ pub(crate) fn body_form(
 }
 
 /// The canonical form of a body that is given up.
+#[inline(always)]
 pub(crate) fn owned_body_form(
     alloc: Global,
     settled: &SettledDefinitions<'_>,

@@ -74,6 +74,7 @@ fn write_ns_name(writer: &mut Writer, prefixes: &Prefixes, uri: &str)
 }
 
 /// Writes a name: alone in the empty namespace, else behind a prefix.
+#[inline(always)]
 fn write_name(writer: &mut Writer, prefixes: &Prefixes, uri: &str, local: &str)
     ensures { Writes (name_piece (prefixes_view prefixes.now) uri.now local.now ∷ [])
         writer.old writer.new }

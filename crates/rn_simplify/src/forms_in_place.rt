@@ -79,6 +79,7 @@ pub(crate) fn form_definitions(
 }
 
 /// Adds the row of the definitions that the one with a number refers to. What `row` held is lost.
+#[inline(always)]
 fn push_references(
     definitions: &DefinitionList,
     likely: &LikelyReferences,
@@ -109,6 +110,7 @@ fn firsts_at(firsts: &[Vec<u32>], number: usize) -> &[u32]
 
 /// Puts the form of the definition with a number in the place of its body, out of which it is made. The kinds are handed
 /// back.
+#[inline(always)]
 fn form_at(
     alloc: Global,
     definitions: &mut DefinitionList,

@@ -49,6 +49,7 @@ impl ListKind {
     }
 
     /// The canonical form of a list of this kind, by the canonical forms of its parts.
+    #[inline(always)]
     pub(crate) fn tree_over(
         self,
         alloc: Global,

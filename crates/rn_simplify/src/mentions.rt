@@ -122,6 +122,7 @@ impl Mentions {
     }
 
     /// Adds the namespace of an nsName.
+    #[inline(always)]
     fn add_ns_name(&mut self, alloc: Global, uri: &str) -> Result<(), AllocError>
         ensures { OnOk result (Gathers (by_ns_name uri.now) self.old self.new) }
     {
@@ -131,6 +132,7 @@ impl Mentions {
         insert(alloc, &mut self.namespaces, uri)
     }
 
+    #[inline(always)]
     fn add_library(&mut self, alloc: Global, library: &str) -> Result<(), AllocError>
         ensures { OnOk result (Gathers (by_library library.now) self.old self.new) }
     {
@@ -138,6 +140,7 @@ impl Mentions {
     }
 }
 
+#[inline(always)]
 fn insert(alloc: Global, texts: &mut BTreeSet<String>, text: &str) -> Result<(), AllocError>
     ensures { OnOk result (GathersTexts (text.now ∷ []) texts.old texts.new) }
 {

@@ -69,6 +69,7 @@ fn write_except(writer: &mut Writer, prefixes: &Prefixes, except: &Option<Box<Pa
 
 /// Writes a pattern in braces.
 #[cycle(pattern)]
+#[inline(always)]
 fn write_in_braces(writer: &mut Writer, prefixes: &Prefixes, content: &Pattern)
     ensures { Writes (in_braces (written_tree (prefixes_view prefixes.now)
         (pattern_view content.now)).pieces) writer.old writer.new }
@@ -218,6 +219,7 @@ fn write_optional_member(writer: &mut Writer, prefixes: &Prefixes, other: &Patte
 }
 
 /// Writes the keyword and the name class of an element or an attribute.
+#[inline(always)]
 fn write_head(writer: &mut Writer, prefixes: &Prefixes, word: &str, class: &NameClass)
     ensures { Writes (keyword (chars word.now) ∷ space ∷
         (written_name (prefixes_view prefixes.now)

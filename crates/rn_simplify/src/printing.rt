@@ -69,6 +69,7 @@ fn write_definitions(writer: &mut Writer, prefixes: &Prefixes, defs: &[(String, 
 }
 
 /// Writes what a name is defined as, and the end of the line.
+#[inline(always)]
 fn write_body(writer: &mut Writer, prefixes: &Prefixes, body: &Pattern)
     ensures { Writes (defined_as (prefixes_view prefixes.now)
         (pattern_view body.now)) writer.old writer.new }

@@ -12,6 +12,7 @@ use std::rc::Rc;
 
 /// Finds the definitions that a pattern refers to, in elements and outside, in the place of what was found before. The
 /// likely numbers are tried first. Names that have no definition are passed over.
+#[inline(always)]
 pub(crate) fn referred_numbers(
     found: &mut Vec<usize>,
     definitions: &DefinitionList,
@@ -72,6 +73,7 @@ fn add_patterns(
 }
 
 /// Adds the reference to a name, if it has a definition.
+#[inline(always)]
 fn add_name(
     found: &mut Vec<usize>,
     definitions: &DefinitionList,

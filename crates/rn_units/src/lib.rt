@@ -31,6 +31,8 @@ mod settling_orders;
 #[cfg(test)]
 mod sizes;
 #[cfg(test)]
+mod small_strings;
+#[cfg(test)]
 mod steps;
 #[cfg(test)]
 mod stores;

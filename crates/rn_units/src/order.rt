@@ -1,7 +1,7 @@
 // The order of name classes and of patterns.
 use crate::pattern_parts::token_value;
 use crate::samples::name;
-use rn_pattern::{Data, NameClass, Pattern};
+use rn_pattern::{Data, NameClass, Pattern, SmallString};
 use std::alloc::{AllocError, Global};
 use std::cmp::Ordering;
 use std::process::Abort;
@@ -79,8 +79,8 @@ fn numbered_pattern(alloc: Global, number: usize) -> Result<Pattern, AllocError>
         0 => Pattern::NotAllowed,
         1 => Pattern::Empty,
         2 => Pattern::Text,
-        3 => Pattern::Ref(String::from_str(alloc, "a")?),
-        4 => Pattern::Ref(String::from_str(alloc, "b")?),
+        3 => Pattern::Ref(SmallString::from_str(alloc, "a")?),
+        4 => Pattern::Ref(SmallString::from_str(alloc, "b")?),
         5 => Pattern::Value(Box::new(alloc, token_value(alloc)?)?),
         6 => datum(alloc, None)?,
         7 => datum(alloc, Some(boxed(alloc, Pattern::Empty)?))?,

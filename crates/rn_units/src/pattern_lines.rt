@@ -30,8 +30,8 @@ fn write_class(out: &mut String, class: &NameClass) -> Result<(), AllocError> {
             write_words(out, &["{", uri, "}*-"])?;
             write_class(out, except)
         }
-        NameClass::Name(uri, local) if uri.is_empty() => out.push_str(local),
-        NameClass::Name(uri, local) => write_words(out, &["{", uri, "}", local]),
+        NameClass::Name(uri, local) if uri.is_empty() => out.push_str(local.as_str()),
+        NameClass::Name(uri, local) => write_words(out, &["{", uri, "}", local.as_str()]),
         NameClass::Choice(classes) => {
             out.push_str("(")?;
             for class in classes {
@@ -93,7 +93,7 @@ pub fn write_pattern(out: &mut String, pattern: &Pattern) -> Result<(), AllocErr
         Pattern::NotAllowed => out.push_str("notAllowed"),
         Pattern::Empty => out.push_str("empty"),
         Pattern::Text => out.push_str("text"),
-        Pattern::Ref(name) => out.push_str(name),
+        Pattern::Ref(name) => out.push_str(name.as_str()),
         Pattern::Value(value) => write_words(
             out,
             &[

@@ -2,7 +2,7 @@
 ghost use Rattle.std.specs.Prelude.{IsTrue};
 
 use rn_modset::{Contribution, ModuleSet};
-use rn_pattern::{NameClass, Node, Patterns};
+use rn_pattern::{NameClass, Node, Patterns, SmallString};
 use std::alloc::{AllocError, Global};
 use std::rc::RcStr;
 
@@ -54,7 +54,7 @@ pub fn rows<'a>(
 /// A name of a namespace.
 pub fn name(alloc: Global, uri: &str, local: &str) -> Result<NameClass, AllocError> {
     let uri = RcStr::from_str(alloc, uri)?;
-    Ok(NameClass::Name(uri, String::from_str(alloc, local)?))
+    Ok(NameClass::Name(uri, SmallString::from_str(alloc, local)?))
 }
 
 /// The contribution of a module's text.

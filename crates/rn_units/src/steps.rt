@@ -8,7 +8,7 @@ use rn_pattern::steps::{
     attribute_over, choice_over, datum_over, element_over, group_over, interleave_over, list_over,
     one_or_more_over, value_of,
 };
-use rn_pattern::{Data, Interned, Node, Pattern, Patterns, Plain};
+use rn_pattern::{Data, Interned, Node, Pattern, Patterns, Plain, SmallString};
 use std::alloc::{AllocError, Global};
 use std::process::Abort;
 use std::rc::Rc;
@@ -33,7 +33,7 @@ fn atom(alloc: Global, number: usize) -> Result<Pattern, AllocError> {
 
 /// A reference to this name.
 fn reference(alloc: Global, name: &str) -> Result<Pattern, AllocError> {
-    Ok(Pattern::Ref(String::from_str(alloc, name)?))
+    Ok(Pattern::Ref(SmallString::from_str(alloc, name)?))
 }
 
 /// References to these names.
@@ -161,7 +161,7 @@ fn is_same<P: Patterns>(store: &P, id: P::Id, pattern: &Pattern) -> bool
         (Node::NotAllowed, Pattern::NotAllowed)
         | (Node::Empty, Pattern::Empty)
         | (Node::Text, Pattern::Text) => true,
-        (Node::Ref(x), Pattern::Ref(y)) => x == y,
+        (Node::Ref(x), Pattern::Ref(y)) => x.as_str() == y.as_str(),
         (Node::Value(library, type_name, text), Pattern::Value(value)) => {
             library.as_str() == value.library.as_str()
                 && *type_name == value.type_name
