@@ -1,5 +1,5 @@
 // The references of the keys.
-ghost use Rattle.std.specs.Prelude.{ℕ, ◌≡◌, ◌+◌, ◌<◌, List, [], ◌∷◌, length, ◌++◌, vec_len, map, nat_eq, option_map, is_some, slice_index_or, MatchResult, IfOk, OnOk};
+ghost use Rattle.std.specs.Prelude.{ℕ, ◌≡◌, ◌+◌, ◌<◌, ◌↔◌, List, [], ◌∷◌, length, ◌++◌, vec_len, map, nat_eq, option_map, is_some, slice_index_or, MatchResult, IfOk, IsTrue, OnOk};
 ghost use Rattle.std.specs.List.{AllByRecursion, IsDistinct};
 ghost use Rattle.std.specs.List.Sorted.{IsStrictlySortedBy};
 ghost use Rattle.rn_text.specs.Texts.{Text, text_cmp};
@@ -13,7 +13,7 @@ ghost use Rattle.rn_assemble.specs.Least.{IsLeast};
 ghost use Rattle.rn_pattern.specs.declared.references.Reach.TheVariants.{Everywhere, OutsideElements};
 ghost use Rattle.rn_assemble.specs.inside.Keyed.{IsFound};
 ghost use Rattle.rn_assemble.specs.inside.ReferenceOrder.{AreDefinedKeys};
-ghost use Rattle.rn_assemble.specs.inside.Referred.{AreAllReferences, AreBodiesAt, AreByKey, AreNumbers, IsFresh, IsLeastUndefined, IsLooked, IsRowNumber, KeepsFresh, KeepsLeast, all_references, lesser_text, names_within, number_within, reference_view, references, references_in, tree_of};
+ghost use Rattle.rn_assemble.specs.inside.Referred.{AreAllReferences, AreBodiesAt, AreByKey, AreInOrder, AreNumbers, IsFresh, IsLeastUndefined, IsLooked, IsRowNumber, KeepsFresh, KeepsLeast, all_references, lesser_text, names_within, number_within, reference_view, references, references_in, tree_of};
 ghost use Rattle.rn_assemble.specs.inside.Views.{names_of};
 ghost use Rattle.rn_pattern.specs.Matching.{definition_of};
 ghost use Rattle.rn_pattern.specs.Graph.{AllBelow, IsGraph, row, rows_of};
@@ -84,7 +84,7 @@ pub(crate) fn references_of<'s>(
     }
     match undefined {
         Some(name) => Err(undefined_name(alloc, name)),
-        None => Ok(rows_by_key(alloc, keys.len(), defined, &rows)?),
+        None => Ok(in_order_of_keys(alloc, keys.len(), defined, rows)?),
     }
 }
 
@@ -96,6 +96,36 @@ fn key_of_row(defined: &[usize], number: usize) -> usize
         Some(index) => defined.get(index).copied().unwrap_or(START),
         None => START,
     }
+}
+
+/// The rows of start and of the defined keys, which follow it in their order, in the order of their keys. They stay as
+/// they are where they have that order already. Any other of that many keys has an empty row.
+fn in_order_of_keys(
+    alloc: Global,
+    count: usize,
+    defined: &[usize],
+    rows: ReferenceRows,
+) -> Result<ReferenceRows, AllocError>
+    requires once { IsDistinct nat_eq defined.now }
+    requires within { AllByRecursion (λ k. k < count) defined.now }
+    requires everywhere_size { length (rows_of rows.everywhere) ≡ length defined.now + 1 }
+    requires outside_size { length (rows_of rows.outside) ≡ length defined.now + 1 }
+    ensures everywhere { IfOk result (λ r. AreByKey (0 ∷ defined.now) count
+        (rows_of rows.everywhere) (rows_of r.everywhere)) }
+    ensures outside { IfOk result (λ r. AreByKey (0 ∷ defined.now) count
+        (rows_of rows.outside) (rows_of r.outside)) }
+{
+    if are_in_order(count, defined) {
+        return Ok(rows);
+    }
+    rows_by_key(alloc, count, defined, &rows)
+}
+
+/// Whether start and the defined keys behind it are all of that many keys, each in its place.
+fn are_in_order(count: usize, defined: &[usize]) -> bool
+    ensures { IsTrue result ↔ AreInOrder count (0 ∷ defined.now) }
+{
+    defined.len() + 1 == count && (0..count).all(|number| key_of_row(defined, number) == number)
 }
 
 /// Puts the rows of start and of the defined keys, which follow it in their order, into the order of their keys. Any

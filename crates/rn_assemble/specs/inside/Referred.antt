@@ -135,6 +135,11 @@ abbrev pub IsRowNumber : (keys : List ℕ) → ℕ → Option ℕ → Type 0
 IsRowNumber keys key None = ¬ Contains keys key
 IsRowNumber keys key (Some n) = (n < length keys) × (slice_index_or keys n 0 ≡ key)
 
+-- the keys are the numbers below count, each in its place
+pub record AreInOrder (count : ℕ) (keys : List ℕ) : Type 0 where
+  pub size : length keys ≡ count
+  pub each : (key : ℕ) → key < count → slice_index_or keys key 0 ≡ key
+
 -- the rows of these keys in the order of the numbers below count; those of other numbers are empty
 pub record AreByKey (keys : List ℕ) (count : ℕ) (old new : List (List ℕ)) : Type 0 where
   pub size : length new ≡ count

@@ -84,19 +84,25 @@ loop-number-preserved c =
           (λ before b. c.in_ok-row_of.ensures.least trees live before l s b);
     }
 
-pub rows_by_key-requires-clause-once : goal.rows_by_key-requires-clause-once
-rows_by_key-requires-clause-once c = IsDistinct-tail nat_eq 0 c.args.defined.now c.requires.once
+pub in_order_of_keys-requires-clause-once : goal.in_order_of_keys-requires-clause-once
+in_order_of_keys-requires-clause-once c = IsDistinct-tail nat_eq 0 c.args.defined.now c.requires.once
 
-pub rows_by_key-requires-clause-within : goal.rows_by_key-requires-clause-within
-rows_by_key-requires-clause-within c = subst (λ n. AllByRecursion (λ k. k < n) c.args.defined.now) (sym c.len.ensures) c.requires.within
+pub in_order_of_keys-requires-clause-within : goal.in_order_of_keys-requires-clause-within
+in_order_of_keys-requires-clause-within c = subst (λ n. AllByRecursion (λ k. k < n) c.args.defined.now) (sym c.len.ensures) c.requires.within
+
+pub in_order_of_keys-requires-clause-everywhere_size : goal.in_order_of_keys-requires-clause-everywhere_size
+in_order_of_keys-requires-clause-everywhere_size c = omega (arith, c.loop-number.invariant.everywhere_size, c.loop-number-test.false)
+
+pub in_order_of_keys-requires-clause-outside_size : goal.in_order_of_keys-requires-clause-outside_size
+in_order_of_keys-requires-clause-outside_size c = omega (arith, c.loop-number.invariant.outside_size, c.loop-number-test.false)
 
 pub returns-clause-everywhere : goal.returns-clause-everywhere
 returns-clause-everywhere c =
-    graph_by_key _ _ _ _ (subst (λ n. AreRows n (rows_of c.loop-number.rows.everywhere)) (sym c.len.ensures) c.loop-number.invariant.everywhere) c.in_ok-rows_by_key-in-None.ensures.everywhere
+    graph_by_key _ _ _ _ (subst (λ n. AreRows n (rows_of c.loop-number.rows.everywhere)) (sym c.len.ensures) c.loop-number.invariant.everywhere) c.in_ok-in_order_of_keys-in-None.ensures.everywhere
 
 pub returns-clause-outside : goal.returns-clause-outside
 returns-clause-outside c =
-    graph_by_key _ _ _ _ (subst (λ n. AreRows n (rows_of c.loop-number.rows.outside)) (sym c.len.ensures) c.loop-number.invariant.outside) c.in_ok-rows_by_key-in-None.ensures.outside
+    graph_by_key _ _ _ _ (subst (λ n. AreRows n (rows_of c.loop-number.rows.outside)) (sym c.len.ensures) c.loop-number.invariant.outside) c.in_ok-in_order_of_keys-in-None.ensures.outside
 
 pub returns-clause-found : goal.returns-clause-found
 returns-clause-found c = λ live l s d.
@@ -106,8 +112,8 @@ returns-clause-found c = λ live l s d.
     let outside = rows_of c.loop-number.rows.outside in
     let size : c.len.result ≡ suc (length names) = omega (arith, c.len.ensures) in
     let done : c.loop-number.number ≡ length all = omega (arith, c.loop-number-test.false) in
-    let by_key = c.in_ok-rows_by_key-in-None.field-0 in
-    let by = c.in_ok-rows_by_key-in-None.ensures in
+    let by_key = c.in_ok-in_order_of_keys-in-None.field-0 in
+    let by = c.in_ok-in_order_of_keys-in-None.ensures in
     gathered_none names _ _ _ live l s c.args.defined.now d everywhere outside _ _
     (subst (λ n. AreByKey all n everywhere (rows_of by_key.everywhere)) size by.everywhere) (subst (λ n. AreByKey all n outside (rows_of by_key.outside)) size by.outside)
     (subst (λ n. Gathered names (components_in live) all everywhere outside n None) done
