@@ -4,4 +4,3 @@ pub mod CanonicalForms
 pub mod Ordered
 pub mod Stores
 pub mod Graphs
-mod Searches

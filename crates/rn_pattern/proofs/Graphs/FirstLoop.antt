@@ -9,7 +9,7 @@ use Rattle.rn_pattern.specs.Graph.{row}
 use Rattle.rn_pattern.specs.Ranks.{Leads, by_edge, and_edge, HasNoLoop, IsFirstLoop, IsRanking}
 use Rattle.rn_pattern.specs.inside.Searching.{GroupingBy, Grouping, GroupsOn, IsClosed, IsLeastLooped, place_of}
 use Rattle.rn_pattern.specs.declared.search.Search.{Search}
-use Rattle.rn_pattern.proofs.Searches.Ranking.{none_met}
+use Rattle.rn_pattern.proofs.Graphs.Searches.Ranking.{none_met}
 
 module _ (rows : List (List ℕ)) where
   pub not_begun : (places : List (Option ℕ)) (left stack path bounds : List ℕ) → places ≡ replicate (length rows) None → left ≡ map (λ (r : List ℕ). length r) rows → stack ≡ [] → path ≡ [] → bounds ≡ [] → GroupingBy rows places left stack path bounds None

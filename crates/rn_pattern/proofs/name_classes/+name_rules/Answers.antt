@@ -15,7 +15,7 @@ use Rattle.rn_pattern.specs.declared.tree.Pattern.TheOpen.{Pattern-F}
 use Rattle.rn_pattern.specs.declared.tree.Pattern.TheVariants as variant
 use Rattle.rn_pattern.specs.declared.tree.Pattern.TheViews as pattern
 use Rattle.rn_pattern.proofs.Ordered.PatternKinds.{group_seen, interleave_seen, choice_seen}
-use Rattle.rn_pattern.proofs.Searches.DecidedByEach.{all_more, stops, ends}
+use Rattle.rn_pattern.proofs.Graphs.Searches.DecidedByEach.{all_more, stops, ends}
 use Rattle.rn_pattern.proofs.name_classes.+name_rules.Goals as goal
 use Rattle.rn_pattern.proofs.name_classes.+name_rules.Goals.{keeps_name_rules-then-has_name_excepts, keeps_name_rules-else-has_name_excepts}
 

@@ -2,7 +2,7 @@ use Rattle.std.proofs.Common.{◌∙◌, ap, ℕ, replicate, rules}
 use Rattle.std.specs.Prelude.{None}
 use Rattle.rn_pattern.specs.Graph.{rows_of}
 use Rattle.rn_pattern.proofs.Graphs.FirstLoop.{not_begun}
-use Rattle.rn_pattern.proofs.Searches.Ranking.{none_ranked}
+use Rattle.rn_pattern.proofs.Graphs.Searches.Ranking.{none_ranked}
 use Rattle.rn_pattern.proofs.search.begin.Goals as goal
 
 pub returns-clause-grouping : goal.returns-clause-grouping

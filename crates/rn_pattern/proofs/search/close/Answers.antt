@@ -3,9 +3,9 @@ use Rattle.std.proofs.lemmas.List.{length-take-le, get_or_read}
 use Rattle.std.specs.Prelude.{vec_len}
 use Rattle.rn_pattern.specs.Graph.{rows_of}
 use Rattle.rn_pattern.specs.inside.Searching.{GroupingBy, RankingBy}
-use Rattle.rn_pattern.proofs.Searches.Rising.{popped}
-use Rattle.rn_pattern.proofs.Searches.KeptGroups.{node_below}
-use Rattle.rn_pattern.proofs.Searches.Closing.{begin_below, group_closed, group_ranked}
+use Rattle.rn_pattern.proofs.Graphs.Searches.Rising.{popped}
+use Rattle.rn_pattern.proofs.Graphs.Searches.KeptGroups.{node_below}
+use Rattle.rn_pattern.proofs.Graphs.Searches.Closing.{begin_below, group_closed, group_ranked}
 use Rattle.rn_pattern.proofs.search.close.Goals as goal
 
 pub index-first-requires : goal.index-first-requires

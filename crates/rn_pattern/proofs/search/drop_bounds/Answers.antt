@@ -2,7 +2,7 @@ use Rattle.std.proofs.Common.{◌≡◌, ◌-◌, ◌<◌, ℕ, arith, ap, lengt
 use Rattle.std.specs.Prelude.{vec_len}
 use Rattle.std.proofs.lemmas.List.{get_or_read}
 use Rattle.std.proofs.lemmas.Grind.{common_steps}
-use Rattle.rn_pattern.proofs.Searches.Rising.{uniting_goes_on, uniting_ends}
+use Rattle.rn_pattern.proofs.Graphs.Searches.Rising.{uniting_goes_on, uniting_ends}
 use Rattle.rn_pattern.proofs.search.drop_bounds.Goals as goal
 
 pub loop-bounds-preserved : goal.loop-bounds-preserved

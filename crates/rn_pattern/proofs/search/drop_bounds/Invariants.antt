@@ -1,5 +1,5 @@
 use Rattle.std.proofs.Common.{length}
-use Rattle.rn_pattern.proofs.Searches.Rising.{IsUniting}
+use Rattle.rn_pattern.proofs.Graphs.Searches.Rising.{IsUniting}
 use Rattle.rn_pattern.proofs.search.drop_bounds.Given as goal
 
 abbrev pub invariant-loop-bounds : goal.invariant-loop-bounds

@@ -1,7 +1,7 @@
 use Rattle.std.proofs.Common.{◌<◌, length, arith}
 use Rattle.rn_pattern.specs.Graph.{rows_of}
-use Rattle.rn_pattern.proofs.Searches.KeptGroups.{entered_at, met_still}
-use Rattle.rn_pattern.proofs.Searches.Ranking.{entered_ranked}
+use Rattle.rn_pattern.proofs.Graphs.Searches.KeptGroups.{entered_at, met_still}
+use Rattle.rn_pattern.proofs.Graphs.Searches.Ranking.{entered_ranked}
 use Rattle.rn_pattern.proofs.search.enter.Goals as goal
 
 pub returns-clause-goes_on : goal.returns-clause-goes_on

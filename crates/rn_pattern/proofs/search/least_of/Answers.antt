@@ -2,7 +2,7 @@ use Rattle.std.proofs.Common.{◌≤◌, ℕ, inl, inr, arith, get_or, subst, be
 use Rattle.std.specs.Prelude.{Contains}
 use Rattle.std.proofs.lemmas.Bool.{cases_lt}
 use Rattle.std.proofs.lemmas.List.Elements.{Contains-get_or}
-use Rattle.rn_pattern.proofs.Searches.Rising.{stands}
+use Rattle.rn_pattern.proofs.Graphs.Searches.Rising.{stands}
 use Rattle.rn_pattern.proofs.search.least_of.Goals as goal
 
 pub loop-node-preserved : goal.loop-node-preserved

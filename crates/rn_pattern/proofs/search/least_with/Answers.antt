@@ -2,7 +2,7 @@ use Rattle.std.proofs.Common.{◌≡◌, ◌<◌, ◌≤◌, ◌⊎◌, ℕ, Lis
 use Rattle.std.specs.Prelude.{Contains}
 use Rattle.rn_pattern.specs.Graph.{row, rows_of}
 use Rattle.rn_pattern.specs.inside.Searching.{node_at}
-use Rattle.rn_pattern.proofs.Searches.Closing.{begin_below, least_looped, least_bare}
+use Rattle.rn_pattern.proofs.Graphs.Searches.Closing.{begin_below, least_looped, least_bare}
 use Rattle.rn_pattern.proofs.search.least_with.Goals as goal
 
 pub last_group-group-requires-clause-within : goal.last_group-group-requires-clause-within

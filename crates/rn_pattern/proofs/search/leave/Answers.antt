@@ -2,8 +2,8 @@ use Rattle.std.proofs.Common.{ℕ, List, arith, sym, subst, ◌∙◌}
 use Rattle.std.specs.Prelude.{vec_len}
 use Rattle.rn_pattern.specs.Graph.{rows_of}
 use Rattle.rn_pattern.specs.inside.Searching.{GroupingBy}
-use Rattle.rn_pattern.proofs.Searches.Rising.{popped}
-use Rattle.rn_pattern.proofs.Searches.KeptGroups.{left_path}
+use Rattle.rn_pattern.proofs.Graphs.Searches.Rising.{popped}
+use Rattle.rn_pattern.proofs.Graphs.Searches.KeptGroups.{left_path}
 use Rattle.rn_pattern.proofs.search.leave.Goals as goal
 
 pub returns-clause-goes_on : goal.returns-clause-goes_on

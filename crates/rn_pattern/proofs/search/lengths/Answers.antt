@@ -1,6 +1,6 @@
 use Rattle.std.proofs.Common.{◌<◌, arith, length}
 use Rattle.rn_pattern.specs.Graph.{rows_of}
-use Rattle.rn_pattern.proofs.Searches.EdgesLeft.{length_more, lengths_all}
+use Rattle.rn_pattern.proofs.Graphs.Searches.EdgesLeft.{length_more, lengths_all}
 use Rattle.rn_pattern.proofs.search.lengths.Goals as goal
 
 pub loop-node-preserved : goal.loop-node-preserved

@@ -1,6 +1,6 @@
 use Rattle.std.proofs.Common.{get_or, refl}
 use Rattle.rn_pattern.specs.Graph.{rows_of}
-use Rattle.rn_pattern.proofs.Searches.EdgesLeft.{next_is}
+use Rattle.rn_pattern.proofs.Graphs.Searches.EdgesLeft.{next_is}
 use Rattle.rn_pattern.proofs.search.next_of.Goals as goal
 
 pub returns : goal.returns

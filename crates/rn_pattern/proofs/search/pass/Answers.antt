@@ -2,7 +2,7 @@ use Rattle.std.proofs.Common.{◌≡◌, ◌<◌, arith, length}
 use Rattle.std.proofs.lemmas.List.{get_or_read}
 use Rattle.rn_pattern.specs.Graph.{rows_of}
 use Rattle.rn_pattern.specs.inside.Searching.{node_at}
-use Rattle.rn_pattern.proofs.Searches.KeptGroups.{node_below, passed_at}
+use Rattle.rn_pattern.proofs.Graphs.Searches.KeptGroups.{node_below, passed_at}
 use Rattle.rn_pattern.proofs.search.pass.Goals as goal
 
 pub returns-clause-goes_on : goal.returns-clause-goes_on

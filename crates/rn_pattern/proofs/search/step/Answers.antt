@@ -2,7 +2,7 @@ use Rattle.std.proofs.Common.{◌-◌, ℕ, List, inl, arith, get_or, sym, ap, �
 use Rattle.std.specs.Prelude.{Contains}
 use Rattle.rn_pattern.specs.Graph.{row, rows_of}
 use Rattle.rn_pattern.specs.inside.Searching.{AllLead, IsClosed}
-use Rattle.rn_pattern.proofs.Searches.KeptGroups.{place_below, leads_next}
+use Rattle.rn_pattern.proofs.Graphs.Searches.KeptGroups.{place_below, leads_next}
 use Rattle.rn_pattern.proofs.search.step.Goals as goal
 
 pub node_of-requires-clause-within : goal.node_of-requires-clause-within

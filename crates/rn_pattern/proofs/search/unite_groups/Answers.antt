@@ -1,6 +1,6 @@
 use Rattle.std.proofs.Common.{◌<◌, inr, length, arith, sym}
 use Rattle.rn_pattern.specs.Graph.{rows_of}
-use Rattle.rn_pattern.proofs.Searches.KeptGroups.{united}
+use Rattle.rn_pattern.proofs.Graphs.Searches.KeptGroups.{united}
 use Rattle.rn_pattern.proofs.search.unite_groups.Goals as goal
 
 pub pass-requires-clause-grouping : goal.pass-requires-clause-grouping

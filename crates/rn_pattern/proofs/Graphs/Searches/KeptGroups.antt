@@ -7,7 +7,7 @@ use Rattle.std.proofs.lemmas.Bool.{cases_eq, cases_lt}
 use Rattle.rn_pattern.specs.Graph.{row}
 use Rattle.rn_pattern.specs.Ranks.{Leads, by_edge, and_edge}
 use Rattle.rn_pattern.specs.inside.Searching.{EndsWith, GroupingBy, IsLeastLooped, IsClosed, IsSettled, IsUnited, AllLead, Comes, Rises, node_at, place_of}
-use Rattle.rn_pattern.proofs.Searches.Rising.{contains_take, rises_left, rises_take, rises_push, first_take, greatest_last, has_last}
+use Rattle.rn_pattern.proofs.Graphs.Searches.Rising.{contains_take, rises_left, rises_take, rises_push, first_take, greatest_last, has_last}
 
 pub met_below : (places : List (Option ℕ)) (x p : ℕ) → place_of places x ≡ Some p → x < length places
 met_below places x p e = elim (cases_lt x (length places)) [ inl h ↦ h | inr h ↦ let q = get_or_past places x None h in cc ]

@@ -7,8 +7,8 @@ use Rattle.std.proofs.lemmas.Bool.{cases_eq, cases_lt}
 use Rattle.rn_pattern.specs.Graph.{row}
 use Rattle.rn_pattern.specs.Ranks.{Leads, by_edge, and_edge, rank_of}
 use Rattle.rn_pattern.specs.inside.Searching.{GroupingBy, RankingBy, IsLeastLooped, IsClosed, IsSettled, IsNear, Comes, Rises, node_at, place_of}
-use Rattle.rn_pattern.proofs.Searches.Rising.{stands, contains_take, rises_left, rises_last, first_left, greatest_last, has_last}
-use Rattle.rn_pattern.proofs.Searches.KeptGroups.{node_below, same_place, leads_on, leads_then, comes_then, least_of_fewer}
+use Rattle.rn_pattern.proofs.Graphs.Searches.Rising.{stands, contains_take, rises_left, rises_last, first_left, greatest_last, has_last}
+use Rattle.rn_pattern.proofs.Graphs.Searches.KeptGroups.{node_below, same_place, leads_on, leads_then, comes_then, least_of_fewer}
 
 module _ (rows : List (List ℕ)) (places : List (Option ℕ)) (left stack path bounds : List ℕ) (least : Option ℕ) (w : GroupingBy rows places left stack path bounds least)
     (front : List ℕ) (b : ℕ) (last : bounds ≡ front ++ b ∷ []) (all_looked : (p : ℕ) → Contains path p → p < b) where

@@ -7,7 +7,7 @@ use Rattle.std.proofs.lemmas.List.Sums.{sum_by-set}
 use Rattle.std.proofs.lemmas.Bool.{cases_lt}
 use Rattle.rn_pattern.specs.Ranks.{rank_of}
 use Rattle.rn_pattern.specs.inside.Searching.{RankingBy, place_of}
-use Rattle.rn_pattern.proofs.Searches.KeptGroups.{closed_before}
+use Rattle.rn_pattern.proofs.Graphs.Searches.KeptGroups.{closed_before}
 
 pub none_met : (n : ℕ) (places : List (Option ℕ)) → places ≡ replicate n None → (x : ℕ) → place_of places x ≡ None
 none_met n places m x = ap (λ (ms : List (Option ℕ)). place_of ms x) m ∙ (elim (cases_lt x n) [
