@@ -48,7 +48,7 @@ impl Combining {
         ensures least { IfOk result (λ combining. combining.least ≡ None) }
     {
         Ok(Combining {
-            shared: vec![in alloc; None; components.count_bodies()]?,
+            shared: nothing_shared(alloc, components)?,
             near: Near::default(),
             least: None,
         })
@@ -65,7 +65,6 @@ impl Combining {
         trees: &mut Trees<'_>,
         key: usize,
     ) -> Result<Option<Pattern>, Refusal>
-        requires { length self.old.shared.items ≡ length components.now.bodies }
         ensures size { length self.new.shared.items ≡ length self.old.shared.items }
         ensures least { self.new.least ≡ self.old.least }
         ensures others { AgreeElsewhere (trees_by trees.new.trees.items)
@@ -110,7 +109,6 @@ impl Combining {
         trees: &mut Trees<'_>,
         key: usize,
     ) -> Result<Option<Pattern>, AllocError>
-        requires { length self.old.shared.items ≡ length components.now.bodies }
         ensures size { length self.new.shared.items ≡ length self.old.shared.items }
         ensures others { AgreeElsewhere (trees_by trees.new.trees.items)
             (trees_by trees.old.trees.items) key }
@@ -153,6 +151,19 @@ impl Combining {
             Ok(key) => Some(Refusal::NameClass { key }),
             Err(_) => Some(Refusal::Memory),
         }
+    }
+}
+
+/// Nothing is resolved yet: an entry for each body, or none where no body can stand twice, since the list is no longer
+/// than that of bodies.
+fn nothing_shared(alloc: Global, components: &Components<'_, '_, '_>) -> Result<Shared, AllocError>
+    ensures { (names : List Text) (trees : TreeView) → IfOk result (λ shared.
+        AreShared names trees components.now.bodies shared.items) }
+{
+    if components.count() > components.count_bodies() {
+        Ok(vec![in alloc; None; components.count_bodies()]?)
+    } else {
+        Ok(Vec::new(alloc))
     }
 }
 
@@ -234,7 +245,6 @@ fn combine_several(
     key: usize,
     near: &mut Near,
 ) -> Result<Option<Pattern>, Refusal>
-    requires { length shared.old.items ≡ length components.now.bodies }
     ensures size { length shared.new.items ≡ length shared.old.items }
     ensures kept { WithShared keys.now (trees_by trees.now.trees.items) components.now
         shared.old.items key
@@ -275,7 +285,6 @@ fn member_patterns(
     key: usize,
     near: &mut Near,
 ) -> Result<Vec<Rc<Pattern>>, Refusal>
-    requires { length shared.old.items ≡ length components.now.bodies }
     ensures size { length shared.new.items ≡ length shared.old.items }
     ensures kept { WithShared keys.now (trees_by trees.now.trees.items) components.now
         shared.old.items key
@@ -297,7 +306,7 @@ fn member_patterns(
     Ok(members)
 }
 
-/// The pattern of the component with a body, shared by all components of it.
+/// The pattern of the component with a body, shared by all components of it where there is an entry for the body.
 fn member_pattern(
     alloc: Global,
     keys: &Keys<'_>,
@@ -307,7 +316,6 @@ fn member_pattern(
     found: Option<usize>,
     near: &mut Near,
 ) -> Result<Option<Rc<Pattern>>, Refusal>
-    requires { length shared.old.items ≡ length components.now.bodies }
     ensures size { length shared.new.items ≡ length shared.old.items }
     ensures kept { WithBody (names_of keys.now) components.now found
         (λ view e. AgreeAt view (trees_by trees.now.trees.items) e.key
@@ -325,7 +333,11 @@ fn member_pattern(
     let Some(body) = components.body(number, near) else {
         return Ok(None);
     };
-    Ok(Some(share_body(alloc, keys, trees, &body, &mut shared[number])?))
+    let pattern = match shared.get_mut(number) {
+        Some(held) => share_body(alloc, keys, trees, &body, held)?,
+        None => share_pattern(alloc, resolve_body(alloc, keys, trees, &body)?)?,
+    };
+    Ok(Some(pattern))
 }
 
 /// The pattern of the body, which is resolved where none is held.

@@ -79,7 +79,6 @@ fn definitions(
     combining: &mut Combining,
     met: &mut Met,
 ) -> Result<(Vec<(String, Pattern)>, Vec<Vec<u32>>), Refusal>
-    requires { length combining.old.shared.items ≡ length components.now.bodies }
     ensures { AfterStart keys.now (trees_by trees.old.trees.items) components.now combining.old
         (λ cs. AreDefinedKeys (names_of keys.now) cs defined.now → MatchResult result
         (λ made. AreDefinitions cs made.0.items made.1.items) (IsMisnamed cs)) }

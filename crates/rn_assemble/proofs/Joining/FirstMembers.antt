@@ -4,7 +4,7 @@ use Rattle.std.specs.Prelude.{slice_get, option_and_then}
 use Rattle.std.specs.List.Sorted.{IsStrictlySortedBy}
 use Rattle.std.proofs.lemmas.Cmp.{tied_itself}
 use Rattle.std.proofs.lemmas.List.{length-map, length_push, get_or-map, get_or_append_left, get_or_push}
-use Rattle.std.proofs.lemmas.Option.{get_or_from_slice_get, slice_get-get_or}
+use Rattle.std.proofs.lemmas.Option.{get_or_from_slice_get, slice_get-get_or, slice_get_within}
 use Rattle.std.specs.declared.alloc.Global.{Global}
 use Rattle.rn_pattern.specs.Graph.{row}
 use Rattle.rn_pattern.specs.Opened.{one_or_node}
@@ -24,7 +24,6 @@ use Rattle.rn_assemble.specs.inside.Keyed.{key_at}
 use Rattle.rn_assemble.specs.inside.Listed.{IsBody, IsLive, Live, ListsBy, components_in}
 use Rattle.rn_assemble.proofs.Referring.FoundReferences.{Shown, shown}
 use Rattle.rn_assemble.proofs.Joining.SameBodies.{one_body}
-use Rattle.rn_assemble.proofs.Joining.SharedPatterns.{within}
 use Rattle.rn_assemble.proofs.Joining.UsedMethods.{at_row, row_size}
 use Rattle.rn_assemble.specs.inside.Trees.{TreeView}
 
@@ -97,7 +96,7 @@ module _ {view : TreeView} (names : List Text) (bs : List Body) (list : List ℕ
       let count = length-map parts (λ (c : Component). c.body) in
       let all : joined_members (joined_pattern cs (key_at names key)) ≡ trees = members_are (uses is_interleave (key_at names key) cs) trees (omega (arith, more, size, count)) in
       let here : slice_get trees i ≡ Some p = ap (λ ms. slice_get ms i) (sym all) ∙ is in
-      let l : i < length places = omega (arith, within trees i p here, size, count) in
+      let l : i < length places = omega (arith, slice_get_within trees i p here, size, count) in
       let f = first i j at in
       let a = part i l in
       let b = part j (omega (arith, l, f.0)) in
@@ -112,7 +111,7 @@ pub firsts_more : (list places firsts : List ℕ) (f : ℕ) → ((i j : ℕ) →
     → (i j : ℕ) → slice_get (firsts ++ f ∷ []) i ≡ Some j → IsFirst list places i j
 firsts_more list places firsts f h here i j at =
     let size = length_push firsts f in
-    let l = within (firsts ++ f ∷ []) i j at in
+    let l = slice_get_within (firsts ++ f ∷ []) i j at in
     let is : get_or (firsts ++ f ∷ []) i 0 ≡ j = get_or_from_slice_get (firsts ++ f ∷ []) i j 0 at in
     subst (IsFirst list places i) is (
     below_more (λ n. IsFirst list places n (get_or (firsts ++ f ∷ []) n 0)) (length firsts)

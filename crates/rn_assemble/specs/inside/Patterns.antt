@@ -50,12 +50,11 @@ IsMisnamedAt cs k = IsMisnamedAs k (BreaksNameRules cs k)
 abbrev pub MayHold : Component → Option (Rc Pattern Global) → Type 0
 MayHold c held = IfSome held (λ p. IsWellNamed c (shared_view p))
 
--- the body of a number, resolved, stands for each component that it is the body of
-pub record AreShared (names : List Text) (trees : TreeView) (bodies : List Body) (shared : List (Option (Rc Pattern Global))) : Type 0 where
-  pub size : length shared ≡ length bodies
-  pub are : (n key : ℕ) (b : Body) (c : Component) → slice_get bodies n ≡ Some b → IsBody names trees b key c → IfSome (slice_index_or shared n None) (λ p. IsWellNamed c (shared_view p))
+-- a pattern that is held for a body's number stands for each component that the body is of
+abbrev pub AreShared : List Text → TreeView → List Body → List (Option (Rc Pattern Global)) → Type 0
+AreShared names trees bodies shared = (n key : ℕ) (b : Body) (c : Component) → slice_get bodies n ≡ Some b → IsBody names trees b key c → IfSome (slice_index_or shared n None) (λ p. IsWellNamed c (shared_view p))
 
--- the body of a number, resolved, stands for each component of x that it is the body of
+-- a pattern that is held for the number of a body of x stands for each component that the body is of
 abbrev pub AreSharedBy : Keys → TreeView → Components → List (Option (Rc Pattern Global)) → Type 0
 AreSharedBy keys trees x shared = AreShared (names_of keys) trees x.bodies shared
 

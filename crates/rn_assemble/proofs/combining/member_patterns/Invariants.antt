@@ -13,7 +13,7 @@ use Rattle.rn_assemble.proofs.combining.member_patterns.Given as goal
 
 abbrev pub invariant-loop-index : goal.invariant-loop-index
 invariant-loop-index l = record {
-  size : length l.shared.items ≡ length l.components.bodies;
+  size : length l.shared.items ≡ length l.fn.shared.items;
   kept : (view : TreeView) → AgreeAt view (trees_by l.trees.trees.items) l.key → (live : List Live) → Lists (names_of l.keys) view l.components live → IsStrictlySortedBy text_cmp (names_of l.keys) → l.key < length (names_of l.keys) + 1
       → AreShared (names_of l.keys) view l.components.bodies l.fn.shared.items → AreShared (names_of l.keys) view l.components.bodies l.shared.items;
   members : (view : TreeView) → AgreeAt view (trees_by l.trees.trees.items) l.key → (live : List Live) → Lists (names_of l.keys) view l.components live → IsStrictlySortedBy text_cmp (names_of l.keys) → l.key < length (names_of l.keys) + 1

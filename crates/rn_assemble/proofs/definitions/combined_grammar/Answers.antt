@@ -16,9 +16,6 @@ use Rattle.rn_assemble.proofs.Joining.HeldStart.{others_agree, start_held, start
 use Rattle.rn_assemble.proofs.Joining.KeyPatterns.{misnamed_first, refused_by}
 use Rattle.rn_assemble.proofs.definitions.combined_grammar.Goals as goal
 
-pub combine-requires : goal.combine-requires
-combine-requires c = (c.in_ok-combining.ensures.shared (names_of c.args.keys.now) (trees_by c.args.trees.now.trees.items)).size
-
 pub returns-in_err-combine : goal.returns-in_err-combine
 returns-in_err-combine c = λ live h o d t.
     let x = c.args.components.now in
@@ -35,9 +32,6 @@ unwrap-start-requires c =
     let trees = trees_by c.args.trees.now.trees.items in
     let kept = c.in_ok-combine.ensures.exact trees (λ number. refl) live h o (omega arith) (c.in_ok-combining.ensures.shared (names_of c.args.keys.now) trees) in
     start_held (components_in live) c.in_ok-combine.field-0 kept t
-
-pub definitions-requires : goal.definitions-requires
-definitions-requires c = c.combine.ensures.size ∙ (c.in_ok-combining.ensures.shared (names_of c.args.keys.now) (trees_by c.args.trees.now.trees.items)).size
 
 pub returns-in_err-definitions : goal.returns-in_err-definitions
 returns-in_err-definitions c = λ live h o d t.

@@ -24,7 +24,6 @@ module _ (names : List Text) (cs : List Component) (keys : List ℕ) (view now :
 
 pub loop-number-init : goal.loop-number-init
 loop-number-init c = record {
-  size = c.requires;
   count = c.in_ok-definitions.ensures.count;
   defining = λ view agree live h o keeps none s defined.
       let names = names_of c.args.keys.now in
@@ -41,7 +40,6 @@ loop-number-init c = record {
 
 pub loop-number-preserved : goal.loop-number-preserved
 loop-number-preserved c = record {
-  size = c.combine_or_note.ensures.size ∙ c.loop-number.invariant.size;
   count = elim c.match-branch-3.branch [
     | in-Some+in_ok-found+in_ok-keep_row w ↦ ap (λ v. length v.items) w.definitions-is ∙ w.put_body.ensures.count ∙ c.loop-number.invariant.count
     | in_default w ↦ ap (λ v. length v.items) w.definitions-is ∙ c.loop-number.invariant.count

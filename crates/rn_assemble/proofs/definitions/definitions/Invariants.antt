@@ -15,7 +15,6 @@ use Rattle.rn_assemble.proofs.definitions.definitions.Given as goal
 
 abbrev pub invariant-loop-number : goal.invariant-loop-number
 invariant-loop-number l = record {
-  size : length l.combining.shared.items ≡ length l.components.bodies;
   count : length l.definitions.items ≡ length l.defined;
   defining : (view : TreeView) → ((key : ℕ) → 0 < key → AgreeAt view (trees_by l.fn.trees.trees.items) key) → (live : List Live) → Lists (names_of l.keys) view l.components live → IsStrictlySortedBy text_cmp (names_of l.keys)
       → ¬ BreaksNameRules (components_in live) start_key → l.fn.combining.least ≡ None → AreSharedBy l.keys view l.components l.fn.combining.shared.items → AreDefinedKeys (names_of l.keys) (components_in live) l.defined
