@@ -1,5 +1,5 @@
 // Texts that lie in the value itself where they are short.
-ghost use Rattle.std.specs.Prelude.{◌≡◌, ◌≤◌, IfOk, length};
+ghost use Rattle.std.specs.Prelude.{◌≡◌, ◌≤◌, IfOk, IsOk, length};
 ghost use Rattle.std.specs.Str.{IsUtf8};
 
 use std::alloc::{AllocError, Global};
@@ -91,7 +91,8 @@ impl SmallString {
     /// A copy of the text. One of up to 22 bytes asks for no memory. The only error is want of memory.
     #[inline(always)]
     pub fn from_str(alloc: Global, text: &str) -> Result<SmallString, AllocError>
-        ensures { IfOk result (λ s. s ≡ text.now) }
+        ensures is { IfOk result (λ s. s ≡ text.now) }
+        ensures in_place { length text.now ≤ 22 → IsOk result }
     {
         let held = if text.len() <= ROOM {
             Held::Short(ShortString::new(text))
