@@ -141,9 +141,9 @@ write_pattern-returns-in-Text t c =
 pub write_pattern-returns-in-Ref : goal.write_pattern-returns-in-Ref
 write_pattern-returns-in-Ref t c =
     let f = prefixes_view c.args.prefixes.now in
-    let x = c.deref.result.now in
+    let x = c.as_str.result.now in
     let e : pattern_view c.args.pattern.now ≡ tree.ref x = search (rules, the_lemmas, fold_out-Pattern Tree pattern_step, fold-roll-Pattern Tree pattern_step) in
-    subst (λ q. Writes (written_tree f q).pieces c.args.writer.now c.put_identifier.new.self) (sym e) (writes_identifier x c.deref.utf8 c.put_identifier.ensures)
+    subst (λ q. Writes (written_tree f q).pieces c.args.writer.now c.put_identifier.new.self) (sym e) (writes_identifier x c.as_str.ensures.utf8 c.put_identifier.ensures)
 
 pub write_except-returns-in-Some : goal.write_except-returns-in-Some
 write_except-returns-in-Some t c =
