@@ -7,6 +7,7 @@ pub mod Table
 pub mod Lists
 pub mod Reduced
 pub mod NameParts
+pub mod Forward
 pub mod Hashing
 pub mod Count
 pub mod Marking
