@@ -280,9 +280,9 @@ fn refer<'s>(
             found.push(Reference { name: *name, reach })?;
             Ok(())
         }
-        Pat::Element(_, content) => refer(content, Reach::Everywhere, found),
-        Pat::Attribute(_, content)
-        | Pat::List(content)
+        Pat::Element(named) => refer(&named.content, Reach::Everywhere, found),
+        Pat::Attribute(named) => refer(&named.content, reach, found),
+        Pat::List(content)
         | Pat::Mixed(content)
         | Pat::DatumBut(_, _, content)
         | Pat::Repeated(_, content) => refer(content, reach, found),

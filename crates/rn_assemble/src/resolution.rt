@@ -19,30 +19,31 @@ use crate::nodes::{
 };
 use rn_pattern::boxes::new_box;
 use rn_pattern::{NameClass, Pattern, SmallString};
-use rn_syntax::{AnyName, Data, Datatype, Name, Nc, Operator, Param, Pat, Postfix, Value};
+use rn_syntax::{AnyName, Data, Datatype, Nc, Operator, Param, Pat, Postfix, PrefixedName, Value};
 use std::alloc::{AllocError, Global};
 use std::rc::{Rc, RcStr};
 
 #[inline(always)]
-fn name(
+fn name(alloc: Global, own: &RcStr, name: &str) -> Result<NameClass, AllocError>
+    ensures { IfOk result (λ c. name_class_view c ≡ tree.name (rc_str_bytes own.now) name.now) }
+{
+    Ok(NameClass::Name(own.clone()?, SmallString::from_str(alloc, name)?))
+}
+
+/// The name in the namespace of its prefix.
+fn prefixed_name(
     alloc: Global,
     context: Context<'_, '_>,
-    own: &RcStr,
-    name: &Name<'_>,
+    name: &PrefixedName<'_>,
 ) -> Result<NameClass, AllocError>
     ensures { InContext context.entry (λ inherited ds. IfOk result (λ c. name_class_view c
-        ≡ resolve.resolved_name inherited ds (rc_str_bytes own.now) (seen.name_view name.now))) }
+        ≡ tree.name (resolve.namespace_of inherited ds name.now.prefix.name.now)
+        name.now.local.now)) }
 {
-    match name {
-        Name::Local(local) => Ok(NameClass::Name(
-            own.clone()?,
-            SmallString::from_str(alloc, local)?,
-        )),
-        Name::Prefixed(prefix, local) => Ok(NameClass::Name(
-            context.namespace(prefix.name).clone()?,
-            SmallString::from_str(alloc, local)?,
-        )),
-    }
+    Ok(NameClass::Name(
+        context.namespace(name.prefix.name).clone()?,
+        SmallString::from_str(alloc, name.local)?,
+    ))
 }
 
 /// Every name, or every name of a namespace.
@@ -98,7 +99,8 @@ pub(crate) fn name_class(
         ≡ resolve.resolved_class inherited ds (rc_str_bytes own.now) (seen.class_view class.now))) }
 {
     match class {
-        Nc::Name(given) => name(alloc, context, own, given),
+        Nc::Local(given) => name(alloc, own, given),
+        Nc::Prefixed(given) => prefixed_name(alloc, context, given),
         Nc::All(any) => every_name(context, any),
         Nc::AllBut(any, except) => {
             let except = name_class(alloc, context, own, except)?;
@@ -296,13 +298,13 @@ pub(crate) fn resolve_pattern(
         ≡ resolve.resolved_pattern inherited ds (seen.pattern_view written.now))) }
 {
     match written {
-        Pat::Element(class, content) => {
-            let content = pattern(alloc, context, content)?;
-            element(alloc, context, class, content)
+        Pat::Element(named) => {
+            let content = pattern(alloc, context, &named.content)?;
+            element(alloc, context, &named.class, content)
         }
-        Pat::Attribute(class, content) => {
-            let content = pattern(alloc, context, content)?;
-            attribute(alloc, context, class, content)
+        Pat::Attribute(named) => {
+            let content = pattern(alloc, context, &named.content)?;
+            attribute(alloc, context, &named.class, content)
         }
         Pat::List(content) => Ok(list(pattern(alloc, context, content)?)),
         Pat::Mixed(content) => {

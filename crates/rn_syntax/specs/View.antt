@@ -4,8 +4,7 @@ use Rattle.std.specs.Borrow.{Bor}
 use Rattle.std.specs.declared.alloc.Global.{Global}
 use Rattle.std.specs.Cow.{cow_str_bytes}
 use Rattle.rn_syntax.specs.declared.tree.Prefix as code_prefix
-use Rattle.rn_syntax.specs.declared.tree.Name as code_name
-use Rattle.rn_syntax.specs.declared.tree.Name.TheVariants as n
+use Rattle.rn_syntax.specs.declared.tree.PrefixedName as code_name
 use Rattle.rn_syntax.specs.declared.tree.AnyName as code_any
 use Rattle.rn_syntax.specs.declared.tree.AnyName.TheVariants as a
 use Rattle.rn_syntax.specs.declared.tree.Nc as code_class
@@ -14,7 +13,7 @@ use Rattle.rn_syntax.specs.declared.tree.Datatype as code_type
 use Rattle.rn_syntax.specs.declared.tree.Datatype.TheVariants as d
 use Rattle.rn_syntax.specs.declared.tree.Param.{Param}
 use Rattle.rn_syntax.specs.declared.tree.Pat as code_pattern
-use Rattle.rn_syntax.specs.declared.tree.Pat.TheOpen.{Pat-F}
+use Rattle.rn_syntax.specs.declared.tree.Pat.TheOpen.{Pat-F, Named-F}
 use Rattle.rn_syntax.specs.declared.tree.Uri as code_uri
 use Rattle.rn_syntax.specs.declared.tree.Uri.TheVariants as u
 use Rattle.rn_syntax.specs.declared.tree.Declaration as code_declaration
@@ -25,9 +24,8 @@ use Rattle.rn_syntax.specs.declared.tree.Module as code_module
 use Rattle.rn_syntax.specs.Tree as t
 use Rattle.rn_syntax.specs.Tree.{Name, AnyName, NameClass, Datatype, Params, Pattern, Uri, Declaration, Item, Items, Module, classes_of, patterns_of, items_of}
 
-abbrev pub name_view : code_name.Name → Name
-name_view (n.Local l) = t.local l.now
-name_view (n.Prefixed p l) = t.prefixed p.name.now l.now p.at
+abbrev pub name_view : code_name.PrefixedName → Name
+name_view n = t.prefixed n.prefix.name.now n.local.now n.prefix.at
 
 abbrev pub any_view : code_any.AnyName → AnyName
 any_view a.Any = t.any
@@ -35,16 +33,14 @@ any_view (a.AnyOf p) = t.any_of p.name.now p.at
 
 -- one level, with each name class inside already seen as its tree
 abbrev pub class_step : Nc-F NameClass → NameClass
-class_step (Nc-F.Name x) = t.name (name_view x)
-class_step (Nc-F.All x) = t.all (any_view x)
-class_step (Nc-F.AllBut x c) = t.all_but (any_view x) c.value
-class_step (Nc-F.Choice cs) = t.choice (classes_of cs.items)
+class_step (Nc-F.Local l) = t.name (t.local l.now)
+class_step (Nc-F.Prefixed x) = t.name (name_view x.value)
+class_step (Nc-F.All x) = t.all (any_view x.value)
+class_step (Nc-F.AllBut x c) = t.all_but (any_view x.value) c.value
+class_step (Nc-F.Choice cs) = t.choice (classes_of cs.value.items)
 
 abbrev pub class_view : code_class.Nc → NameClass
 class_view = code_class.fold-Nc NameClass class_step
-
-abbrev pub boxed_class_view : Box code_class.Nc Global → NameClass
-boxed_class_view c = class_view c.value
 
 abbrev pub classes_view : List code_class.Nc → t.NameClasses
 classes_view cs = classes_of (map class_view cs)
@@ -65,9 +61,12 @@ abbrev pub params_view : List Param → Params
 params_view ps = map param_view ps
 
 -- one level, with each pattern inside already seen as its tree
-abbrev pub pattern_step : Pat-F Pattern → Pattern
-pattern_step (Pat-F.Element c p) = t.element (boxed_class_view c) p.value
-pattern_step (Pat-F.Attribute c p) = t.attribute (boxed_class_view c) p.value
+abbrev pub named_step : Named-F Pattern (NameClass × Pattern) → NameClass × Pattern
+named_step n = (class_view n.class, n.content)
+
+abbrev pub pattern_step : Pat-F Pattern (NameClass × Pattern) → Pattern
+pattern_step (Pat-F.Element n) = t.element n.value.0 n.value.1
+pattern_step (Pat-F.Attribute n) = t.attribute n.value.0 n.value.1
 pattern_step (Pat-F.List p) = t.list p.value
 pattern_step (Pat-F.Mixed p) = t.mixed p.value
 pattern_step Pat-F.Empty = t.empty
@@ -81,7 +80,7 @@ pattern_step (Pat-F.Repeated s p) = t.repeated s p.value
 pattern_step (Pat-F.Chain op ps) = t.chain op (patterns_of ps.items)
 
 abbrev pub pattern_view : code_pattern.Pat → Pattern
-pattern_view = code_pattern.fold-Pat Pattern pattern_step
+pattern_view = code_pattern.fold-Pat Pattern (NameClass × Pattern) pattern_step named_step
 
 abbrev pub boxed_view : Box code_pattern.Pat Global → Pattern
 boxed_view p = pattern_view p.value

@@ -11,3 +11,4 @@ pub mod Stopping
 pub mod Numbered
 pub mod Borrowed
 pub mod PatternEnds
+pub mod Boxes

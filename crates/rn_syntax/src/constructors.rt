@@ -3,56 +3,56 @@ ghost use Rattle.std.specs.Prelude.{Some, None};
 ghost use Rattle.std.specs.Cow.{cow_str_bytes};
 ghost use Rattle.rn_syntax.specs.inside.Readers.{Makes};
 ghost use Rattle.rn_syntax.specs.Tree as tree;
-ghost use Rattle.rn_syntax.specs.View.{boxed_class_view, boxed_view, datatype_view, params_view, patterns_view, type_view};
+ghost use Rattle.rn_syntax.specs.View.{boxed_view, class_view, datatype_view, params_view, pattern_view, patterns_view, type_view};
 
 use crate::boxes::boxed;
 use crate::fault::Fault;
 use crate::token::{Operator, Postfix};
-use crate::tree::{Data, Datatype, Nc, Param, Pat, Value};
+use crate::tree::{Data, Datatype, Named, Param, Pat, Value};
 use std::alloc::Global;
 use std::borrow::CowStr;
 
 pub(crate) fn element<'a>(
     alloc: Global,
-    class: Box<Nc<'a>>,
-    content: Box<Pat<'a>>,
+    named: Box<Named<'a>>,
     end: usize,
 ) -> Result<(Box<Pat<'a>>, usize), Fault>
-    ensures { Makes boxed_view (tree.element (boxed_class_view class.entry)
-        (boxed_view content.entry)) end result }
+    ensures { Makes boxed_view (tree.element (class_view named.entry.value.class)
+        (pattern_view named.entry.value.content)) end result }
 {
-    boxed(alloc, Pat::Element(class, content), end)
+    boxed(alloc, Pat::Element(named), end)
 }
 
 pub(crate) fn attribute<'a>(
     alloc: Global,
-    class: Box<Nc<'a>>,
-    content: Box<Pat<'a>>,
+    named: Box<Named<'a>>,
     end: usize,
 ) -> Result<(Box<Pat<'a>>, usize), Fault>
-    ensures { Makes boxed_view (tree.attribute (boxed_class_view class.entry)
-        (boxed_view content.entry)) end result }
+    ensures { Makes boxed_view (tree.attribute (class_view named.entry.value.class)
+        (pattern_view named.entry.value.content)) end result }
 {
-    boxed(alloc, Pat::Attribute(class, content), end)
+    boxed(alloc, Pat::Attribute(named), end)
 }
 
 pub(crate) fn list<'a>(
     alloc: Global,
-    content: Box<Pat<'a>>,
+    content: Pat<'a>,
     end: usize,
 ) -> Result<(Box<Pat<'a>>, usize), Fault>
-    ensures { Makes boxed_view (tree.list (boxed_view content.entry)) end result }
+    ensures { Makes boxed_view (tree.list (pattern_view content.entry)) end result }
 {
+    let content = Box::new(alloc, content)?;
     boxed(alloc, Pat::List(content), end)
 }
 
 pub(crate) fn mixed<'a>(
     alloc: Global,
-    content: Box<Pat<'a>>,
+    content: Pat<'a>,
     end: usize,
 ) -> Result<(Box<Pat<'a>>, usize), Fault>
-    ensures { Makes boxed_view (tree.mixed (boxed_view content.entry)) end result }
+    ensures { Makes boxed_view (tree.mixed (pattern_view content.entry)) end result }
 {
+    let content = Box::new(alloc, content)?;
     boxed(alloc, Pat::Mixed(content), end)
 }
 

@@ -30,6 +30,6 @@ pub use included::includes;
 pub use reader::parse;
 pub use token::{Method, Operator, Postfix};
 pub use tree::{
-    AnyName, Data, Datatype, Declaration, Include, Item, Module, Name, Nc, Param, Pat, Prefix, Uri,
-    Value,
+    AnyName, Data, Datatype, Declaration, Include, Item, Module, Named, Nc, Param, Pat, Prefix,
+    PrefixedName, Uri, Value,
 };

@@ -1,12 +1,13 @@
 // Name classes (compact syntax, section 2, nameClass).
 ghost use Rattle.std.specs.Prelude.{◌≡◌, ◌≤◌, ◌<◌, ◌+◌, [], length, false, IfSome, MatchOption};
 ghost use Rattle.rn_syntax.specs.inside.Follow.{Starts, Anything, begins_any, behind_class, behind_name, first_terminal};
+ghost use Rattle.rn_syntax.specs.inside.Boxes.{boxed_class_view};
 ghost use Rattle.rn_syntax.specs.Grammar.{IsAnyName, IsClassCore, IsClassOperand, IsClassPrimary, IsNameClass};
 ghost use Rattle.rn_text.specs.inside.Reading.{GoesOn, MayGoOn};
 ghost use Rattle.rn_syntax.specs.inside.Readers.{Makes, Reads, Took, rest};
 ghost use Rattle.rn_syntax.specs.inside.Sequence.{IsAnyClassEnd, IsClassEnd, IsHere};
 ghost use Rattle.rn_syntax.specs.Tree as tree;
-ghost use Rattle.rn_syntax.specs.View.{any_view, boxed_class_view, classes_view, name_view};
+ghost use Rattle.rn_syntax.specs.View.{any_view, class_view, classes_view};
 
 use crate::annotations::{skip_annotation, skip_follows};
 use crate::boxes::{boxed, push_member};
@@ -15,19 +16,33 @@ use crate::terminals::{
     Terminal, is_operator, keyword_text, local_name, next, place, prefix_name, right_paren,
 };
 use crate::token::{Operator, Postfix};
-use crate::tree::{AnyName, Name, Nc, Prefix};
+use crate::tree::{AnyName, Nc, Prefix, PrefixedName};
 use rn_text::Token;
 use std::alloc::Global;
 
-fn single_name(alloc: Global, name: Name<'_>, end: usize) -> Result<(Box<Nc<'_>>, usize), Fault>
-    ensures { Makes boxed_class_view (tree.name (name_view name.entry)) end result }
+fn single_name(alloc: Global, name: &str, end: usize) -> Result<(Box<Nc<'_>>, usize), Fault>
+    ensures { Makes boxed_class_view (tree.name (tree.local name.now)) end result }
 {
-    boxed(alloc, Nc::Name(name), end)
+    boxed(alloc, Nc::Local(name), end)
+}
+
+fn prefixed_name<'a>(
+    alloc: Global,
+    prefix: Prefix<'a>,
+    local: &'a str,
+    end: usize,
+) -> Result<(Box<Nc<'a>>, usize), Fault>
+    ensures { Makes boxed_class_view (tree.name (tree.prefixed prefix.entry.name.now local.now
+        prefix.entry.at)) end result }
+{
+    let name = Box::new(alloc, PrefixedName { prefix, local })?;
+    boxed(alloc, Nc::Prefixed(name), end)
 }
 
 fn all_names(alloc: Global, any: AnyName<'_>, end: usize) -> Result<(Box<Nc<'_>>, usize), Fault>
     ensures { Makes boxed_class_view (tree.all (any_view any.entry)) end result }
 {
+    let any = Box::new(alloc, any)?;
     boxed(alloc, Nc::All(any), end)
 }
 
@@ -40,6 +55,7 @@ fn all_names_but<'a>(
     ensures { Makes boxed_class_view (tree.all_but (any_view any.entry)
         (boxed_class_view except.entry)) end result }
 {
+    let any = Box::new(alloc, any)?;
     boxed(alloc, Nc::AllBut(any, except), end)
 }
 
@@ -50,6 +66,7 @@ fn choice<'a>(
 ) -> Result<(Box<Nc<'a>>, usize), Fault>
     ensures { Makes boxed_class_view (tree.choice (classes_view members.entry.items)) end result }
 {
+    let members = Box::new(alloc, members)?;
     boxed(alloc, Nc::Choice(members), end)
 }
 
@@ -69,9 +86,26 @@ fn lone_name<'a>(tokens: &[Token<'a>], at: usize) -> Option<&'a str>
     }
 }
 
-/// `nc = ncoperand ( "|" ncoperand )*`. Most are one name before `{`, which is asked for first.
+/// The name class before a `{`; most are one name, which is asked for first.
+pub(crate) fn whole_class<'a>(
+    alloc: Global,
+    tokens: &[Token<'a>],
+    at: usize,
+) -> Result<(Nc<'a>, usize), Fault>
+    requires { at ≤ length tokens.now }
+    ensures inside { GoesOn at (length tokens.now) result }
+    ensures reads { Reads IsNameClass (Starts behind_class) class_view tokens.now at result }
+{
+    if let Some(name) = lone_name(tokens, at) {
+        return Ok((Nc::Local(name), at + 1));
+    }
+    let (class, end) = name_class(alloc, tokens, at)?;
+    Ok((Box::into_inner(class), end))
+}
+
+/// `nc = ncoperand ( "|" ncoperand )*`
 #[cycle(name_class)]
-pub(crate) fn name_class<'a>(
+fn name_class<'a>(
     alloc: Global,
     tokens: &[Token<'a>],
     at: usize,
@@ -80,9 +114,6 @@ pub(crate) fn name_class<'a>(
     ensures inside { GoesOn at (length tokens.now) result }
     ensures reads { Reads IsNameClass (Starts behind_class) boxed_class_view tokens.now at result }
 {
-    if let Some(name) = lone_name(tokens, at) {
-        return single_name(alloc, Name::Local(name), at + 1);
-    }
     let (first, mut end) = class_operand(alloc, tokens, at)?;
     if !is_operator(tokens, end, Operator::Bar) {
         return Ok((first, end));
@@ -222,17 +253,17 @@ fn class_core<'a>(
     ensures reads { Reads IsClassCore Anything boxed_class_view tokens.now at result }
 {
     match next(tokens, at) {
-        Terminal::Ident(name) => single_name(alloc, Name::Local(name), at + 1),
+        Terminal::Ident(name) => single_name(alloc, name, at + 1),
         Terminal::Keyword(keyword) => {
             let name = keyword_text(tokens, at, keyword);
-            single_name(alloc, Name::Local(name), at + 1)
+            single_name(alloc, name, at + 1)
         }
         Terminal::Prefixed(text) => {
             let prefix = Prefix {
                 name: prefix_name(text),
                 at: place(tokens, at),
             };
-            single_name(alloc, Name::Prefixed(prefix, local_name(text)), at + 1)
+            prefixed_name(alloc, prefix, local_name(text), at + 1)
         }
         Terminal::LeftParen => {
             let (class, end) = name_class(alloc, tokens, at + 1)?;

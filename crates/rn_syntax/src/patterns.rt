@@ -5,8 +5,9 @@ ghost use Rattle.rn_syntax.specs.Grammar.{IsCore, IsOperand, IsPattern, IsPrimar
 ghost use Rattle.rn_syntax.specs.inside.PatternEnds.{BehindCore, BehindDatatype, BehindParams, BehindPostfix, BehindPrimary, IsDataEnd, IsTypedValue, IsBraced, IsNamed};
 ghost use Rattle.rn_text.specs.inside.Reading.{GoesOn, MayGoOn};
 ghost use Rattle.rn_syntax.specs.inside.Readers.{Reads, Took, rest};
+ghost use Rattle.rn_syntax.specs.inside.Boxes.{boxed_named_view};
 ghost use Rattle.rn_syntax.specs.Terminal as terminal;
-ghost use Rattle.rn_syntax.specs.View.{boxed_class_view, boxed_view, datatype_view, params_view, pattern_view};
+ghost use Rattle.rn_syntax.specs.View.{boxed_view, datatype_view, params_view, pattern_view};
 
 use crate::annotations::{skip_annotation, skip_follows};
 use crate::boxes::{boxed, push_member};
@@ -17,10 +18,10 @@ use crate::constructors::{
 use crate::datatypes::{datatype, params};
 use crate::fault::Fault;
 use crate::literals::literal;
-use crate::names::name_class;
+use crate::names::whole_class;
 use crate::terminals::{Terminal, is_operator, left_brace, next, place, right_brace, right_paren};
 use crate::token::Postfix;
-use crate::tree::{Datatype, Nc, Param, Pat};
+use crate::tree::{Datatype, Named, Param, Pat};
 use rn_text::{Keyword, Token};
 use std::alloc::Global;
 
@@ -309,12 +310,12 @@ fn keyword_core<'a>(
 {
     match keyword {
         Keyword::Element => {
-            let ((class, content), end) = named(alloc, tokens, at + 1)?;
-            element(alloc, class, content, end)
+            let (named, end) = named(alloc, tokens, at + 1)?;
+            element(alloc, named, end)
         }
         Keyword::Attribute => {
-            let ((class, content), end) = named(alloc, tokens, at + 1)?;
-            attribute(alloc, class, content, end)
+            let (named, end) = named(alloc, tokens, at + 1)?;
+            attribute(alloc, named, end)
         }
         Keyword::List => {
             let (content, end) = braced(alloc, tokens, at + 1)?;
@@ -337,15 +338,14 @@ fn named<'a>(
     alloc: Global,
     tokens: &[Token<'a>],
     at: usize,
-) -> Result<((Box<Nc<'a>>, Box<Pat<'a>>), usize), Fault>
+) -> Result<(Box<Named<'a>>, usize), Fault>
     requires { at ≤ length tokens.now }
     ensures inside { GoesOn at (length tokens.now) result }
-    ensures reads { Reads IsNamed Anything
-        (λ r. (boxed_class_view r.0, boxed_view r.1)) tokens.now at result }
+    ensures reads { Reads IsNamed Anything boxed_named_view tokens.now at result }
 {
-    let (class, end) = name_class(alloc, tokens, at)?;
+    let (class, end) = whole_class(alloc, tokens, at)?;
     let (content, behind) = braced(alloc, tokens, end)?;
-    Ok(((class, content), behind))
+    boxed(alloc, Named { class, content }, behind)
 }
 
 /// The pattern that this token is, if it is a whole one: if `}` stands right behind it.
@@ -375,19 +375,16 @@ fn lone_token<'a>(tokens: &[Token<'a>], at: usize) -> Option<Pat<'a>>
 
 /// `"{" pattern "}"`. Many have one token between them, which is asked for first.
 #[cycle(pattern)]
-fn braced<'a>(
-    alloc: Global,
-    tokens: &[Token<'a>],
-    at: usize,
-) -> Result<(Box<Pat<'a>>, usize), Fault>
+fn braced<'a>(alloc: Global, tokens: &[Token<'a>], at: usize) -> Result<(Pat<'a>, usize), Fault>
     requires { at ≤ length tokens.now }
     ensures inside { GoesOn at (length tokens.now) result }
-    ensures reads { Reads IsBraced Anything boxed_view tokens.now at result }
+    ensures reads { Reads IsBraced Anything pattern_view tokens.now at result }
 {
     let inside = left_brace(tokens, at)?;
     if let Some(content) = lone_token(tokens, inside) {
-        return boxed(alloc, content, inside + 2);
+        return Ok((content, inside + 2));
     }
     let (content, end) = pattern(alloc, tokens, inside)?;
-    Ok((content, right_brace(tokens, end)?))
+    let behind = right_brace(tokens, end)?;
+    Ok((Box::into_inner(content), behind))
 }

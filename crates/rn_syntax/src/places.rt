@@ -30,9 +30,9 @@ fn pattern_place(rule: Rule, bindings: &Bindings<'_, '_>, pattern: &Pat<'_>) -> 
         (pattern_view pattern.now)) }
 {
     match pattern {
-        Pat::Element(class, content) | Pat::Attribute(class, content) => {
-            match rule.name_class(bindings, class) {
-                None => pattern_place(rule, bindings, content),
+        Pat::Element(named) | Pat::Attribute(named) => {
+            match rule.name_class(bindings, &named.class) {
+                None => pattern_place(rule, bindings, &named.content),
                 wrong => wrong,
             }
         }

@@ -8,7 +8,7 @@ ghost use Rattle.rn_syntax.specs.View.{class_view, classes_view, any_view, datat
 
 use crate::bindings::Bindings;
 use crate::token::Operator;
-use crate::tree::{AnyName, Datatype, Name, Nc, Param, Pat, Prefix};
+use crate::tree::{AnyName, Datatype, Nc, Param, Pat, Prefix};
 
 /// A rule on what stands in patterns, or all of them at once.
 #[derive(Clone, Copy)]
@@ -64,10 +64,10 @@ fn class_place(bindings: &Bindings<'_, '_>, class: &Nc<'_>) -> Option<usize>
     ensures { result ≡ first (places.class_places (bound bindings.now) (class_view class.now)) }
 {
     match class {
-        Nc::Name(Name::Local(_)) => None,
-        Nc::Name(Name::Prefixed(prefix, _)) => unbound_namespace(bindings, *prefix),
-        Nc::All(any) => any_name_place(bindings, *any),
-        Nc::AllBut(any, excepted) => match any_name_place(bindings, *any) {
+        Nc::Local(_) => None,
+        Nc::Prefixed(name) => unbound_namespace(bindings, name.prefix),
+        Nc::All(any) => any_name_place(bindings, **any),
+        Nc::AllBut(any, excepted) => match any_name_place(bindings, **any) {
             None => class_place(bindings, excepted),
             unbound => unbound,
         },

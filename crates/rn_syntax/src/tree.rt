@@ -13,13 +13,13 @@ pub struct Prefix<'a> {
     pub at: usize,
 }
 
-/// A name in a name class.
+/// A name with a prefix, a CName.
 #[derive(Clone, Copy, Debug)]
-pub enum Name<'a> {
-    /// Without a prefix.
-    Local(&'a str),
-    /// The prefix, and the local name behind the colon.
-    Prefixed(Prefix<'a>, &'a str),
+pub struct PrefixedName<'a> {
+    /// The prefix before the colon.
+    pub prefix: Prefix<'a>,
+    /// The local name behind the colon.
+    pub local: &'a str,
 }
 
 /// `*`, or a prefix behind which `:*` stands.
@@ -31,17 +31,20 @@ pub enum AnyName<'a> {
     AnyOf(Prefix<'a>),
 }
 
-/// A name class (RELAX NG Compact Syntax, 2, nameClass).
+/// A name class (RELAX NG Compact Syntax, 2, nameClass). What is rare is in a box, so that a class takes little room
+/// beside its pattern.
 #[derive(Drop)]
 pub enum Nc<'a> {
-    /// One name.
-    Name(Name<'a>),
+    /// One name, without a prefix.
+    Local(&'a str),
+    /// One name, with a prefix.
+    Prefixed(Box<PrefixedName<'a>>),
     /// All names, or all of a namespace.
-    All(AnyName<'a>),
+    All(Box<AnyName<'a>>),
     /// All names, or all of a namespace, but those of the class behind the `-`.
-    AllBut(AnyName<'a>, Box<Nc<'a>>),
+    AllBut(Box<AnyName<'a>>, Box<Nc<'a>>),
     /// Two or more, in the order of the text.
-    Choice(Vec<Nc<'a>>),
+    Choice(Box<Vec<Nc<'a>>>),
 }
 
 /// The name of a datatype; `string` and `token` with the bytes of the source at which they begin.
@@ -84,12 +87,13 @@ pub struct Data<'a> {
 
 /// A pattern. A chain of one operator is one list of two or more; parentheses leave nothing. What is large is in a box,
 /// since most patterns are references and chains.
+#[cycle(pattern)]
 #[derive(Drop)]
 pub enum Pat<'a> {
-    /// The name class, and the pattern in braces.
-    Element(Box<Nc<'a>>, Box<Pat<'a>>),
-    /// The name class, and the pattern in braces.
-    Attribute(Box<Nc<'a>>, Box<Pat<'a>>),
+    /// `element nc { .. }`
+    Element(Box<Named<'a>>),
+    /// `attribute nc { .. }`
+    Attribute(Box<Named<'a>>),
     /// `list { .. }`
     List(Box<Pat<'a>>),
     /// `mixed { .. }`
@@ -112,6 +116,16 @@ pub enum Pat<'a> {
     Repeated(Postfix, Box<Pat<'a>>),
     /// Two or more members, in the order of the text.
     Chain(Operator, Vec<Pat<'a>>),
+}
+
+/// What has a name class and, in braces, a pattern.
+#[cycle(pattern)]
+#[derive(Drop)]
+pub struct Named<'a> {
+    /// The name class.
+    pub class: Nc<'a>,
+    /// The pattern in braces.
+    pub content: Pat<'a>,
 }
 
 /// The URI of a declaration.

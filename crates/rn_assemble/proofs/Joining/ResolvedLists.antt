@@ -6,7 +6,7 @@ use Rattle.std.specs.declared.alloc.Global.{Global}
 use Rattle.rn_pattern.specs.Tree.{more_names, more_trees, name_trees_of, trees_of}
 use Rattle.rn_text.specs.Texts.{Text}
 use Rattle.rn_syntax.specs.Tree.{Declaration}
-use Rattle.rn_syntax.specs.View.{class_view, classes_view, pattern_step, pattern_view, patterns_view}
+use Rattle.rn_syntax.specs.View.{class_view, classes_view, named_step, pattern_step, pattern_view, patterns_view}
 use Rattle.rn_syntax.specs.declared.tree.Nc.{Nc}
 use Rattle.rn_syntax.specs.Tree as t
 use Rattle.rn_syntax.specs.declared.token.Operator.{Operator}
@@ -34,7 +34,7 @@ patterns_resolved inherited ds (p ∷ ps) = ap (more_trees (resolved_pattern inh
 
 -- trees of single nodes
 pub repeated_seen : (r : Postfix) (p : Box Pat Global) → pattern_view (written.Repeated r p) ≡ t.repeated r (pattern_view p.value)
-repeated_seen r p = ap pattern_view (sym (rolls-Repeated r p)) ∙ fold-roll-Pat t.Pattern pattern_step (Pat-F.Repeated r p)
+repeated_seen r p = ap pattern_view (sym (rolls-Repeated r p)) ∙ fold-roll-Pat t.Pattern (t.NameClass × t.Pattern) pattern_step named_step (Pat-F.Repeated r p)
 
 pub chain_seen : (o : Operator) (ps : Vec Pat Global) → pattern_view (written.Chain o ps) ≡ t.chain o (patterns_view ps.items)
-chain_seen o ps = ap pattern_view (sym (rolls-Chain o ps)) ∙ fold-roll-Pat t.Pattern pattern_step (Pat-F.Chain o ps)
+chain_seen o ps = ap pattern_view (sym (rolls-Chain o ps)) ∙ fold-roll-Pat t.Pattern (t.NameClass × t.Pattern) pattern_step named_step (Pat-F.Chain o ps)

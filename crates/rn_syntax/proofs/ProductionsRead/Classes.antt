@@ -1,12 +1,9 @@
 -- Name classes, part by part.
-use Rattle.std.proofs.Common.{◌≡◌, ◌⊎◌, inl, inr, ℕ, Bool, true, false, List, [], ◌∷◌, ◌++◌, refl, ap, sym, ◌∙◌, subst, unwrap_or, Box, Global, Result, Ok, Err}
+use Rattle.std.proofs.Common.{◌≡◌, ◌⊎◌, inl, inr, ℕ, Bool, true, false, List, [], ◌∷◌, ◌++◌, refl, ap, sym, ◌∙◌, subst, unwrap_or}
 use Rattle.std.proofs.lemmas.Bool.{false≢true}
 use Rattle.rn_syntax.specs.declared.token.Operator.TheVariants as o
 use Rattle.rn_syntax.specs.declared.terminals.Terminal as code
 use Rattle.rn_syntax.specs.declared.terminals.Terminal.TheVariants as c
-use Rattle.rn_syntax.specs.declared.fault.Fault.{Fault}
-use Rattle.rn_syntax.specs.declared.tree.Nc.{Nc}
-use Rattle.rn_syntax.specs.View.{class_view, boxed_class_view}
 use Rattle.rn_syntax.specs.Terminal as x
 use Rattle.rn_syntax.specs.Terminal.{Terminal, Placed, ◌#◌, ident, operator, minus, left_brace, left_paren, right_paren}
 use Rattle.rn_syntax.specs.Tree as t
@@ -15,7 +12,7 @@ use Rattle.rn_syntax.specs.Grammar as g
 use Rattle.rn_syntax.specs.Grammar.{Tokens, IsWord, MayHaveAnnotation, AreFollows, IsAnyName, IsNameClass, AreMoreClasses, IsClassOperand, IsClassPrimary, IsClassCore}
 use Rattle.rn_syntax.specs.inside.Follow.{Starts, Anything, first_terminal, no_bracket, no_follow, behind_name, behind_class, begins_any}
 use Rattle.rn_syntax.specs.inside.Sequence.{Then, both, Gives, gives, IsToken, token, IsHere, IsClassEnd, IsAnyClassEnd}
-use Rattle.rn_syntax.specs.inside.Readers.{Took, Stuck, Bare, Makes, seen, IsNext}
+use Rattle.rn_syntax.specs.inside.Readers.{Took, Stuck, Bare, seen, IsNext}
 use Rattle.rn_syntax.proofs.OneReading.OneClass.{class_core_one, class_core_front, any_no_bracket, any_one, word_is, minus_stays, name_to_follow, class_to_name, starts_to}
 use Rattle.rn_syntax.proofs.ProductionsRead.Compose.{Upto, Fits, Can, CanBe, upto_at, upto_token, upto_then, took_upto, stuck_upto, reads, stuck_in, took_gives, first_alike, stuck_here, fits_anything, fits_token, fits_gives, can_gives, can_then}
 use Rattle.rn_syntax.proofs.ProductionsRead.Repeating.{Whole}
@@ -342,8 +339,3 @@ lone_class {n = n} {now = now} {next = next} e b =
 
 pub so_far_same : {xs ys : List NameClass} (ts now : Tokens) → xs ≡ ys → So_far classes_chain xs ts now → So_far classes_chain ys ts now
 so_far_same ts now e u = subst (λ (l : List NameClass). So_far classes_chain l ts now) e u
-
--- a name class in a box, where there is memory for it
-pub class_is : (x : Nc) {y : NameClass} (behind : ℕ) (r : Result (Box Nc Global × ℕ) Fault) → Makes (λ b. b.value) x behind r → class_view x ≡ y → Makes boxed_class_view y behind r
-class_is x behind (Ok r) m seen = (ap class_view m.0 ∙ seen, m.1)
-class_is x behind (Err e) m seen = m

@@ -2,25 +2,20 @@
 use Rattle.std.proofs.Common.{◌≡◌, ◌∙◌, ℕ, ap, rules, Box, Global}
 use Rattle.std.specs.Prelude.{Result, Ok, Err}
 use Rattle.rn_syntax.specs.declared.fault.Fault.{Fault}
+use Rattle.rn_syntax.specs.inside.Boxes.{boxed_named_view}
 use Rattle.rn_syntax.specs.inside.Readers.{Makes}
 use Rattle.rn_syntax.specs.declared.token.Postfix.{Postfix}
 use Rattle.rn_syntax.specs.Tree as t
-use Rattle.rn_syntax.specs.View.{boxed_view, boxed_class_view, datatype_view, params_view, pattern_view}
-use Rattle.rn_syntax.specs.declared.tree.Nc as code_class
+use Rattle.rn_syntax.specs.View.{boxed_view, class_view, datatype_view, params_view, pattern_view}
+use Rattle.rn_syntax.specs.declared.tree.Named.{Named}
 use Rattle.rn_syntax.specs.declared.tree.Data.{Data}
-use Rattle.rn_syntax.specs.declared.tree.Pat.{Pat, Element, Attribute, List, Mixed, Empty, NotAllowed, Text, Ref, DatumBut, Repeated, the_lemmas}
+use Rattle.rn_syntax.specs.declared.tree.Pat.{Pat, Element, Attribute, Empty, NotAllowed, Text, Ref, DatumBut, Repeated, the_lemmas}
 
-pub view-Element : (c : Box code_class.Nc Global) (p : Box Pat Global) → pattern_view (Element c p) ≡ t.element (boxed_class_view c) (boxed_view p)
-view-Element c p = search (rules, the_lemmas)
+pub view-Element : (n : Box Named Global) → pattern_view (Element n) ≡ t.element (class_view n.value.class) (pattern_view n.value.content)
+view-Element n = search (rules, the_lemmas)
 
-pub view-Attribute : (c : Box code_class.Nc Global) (p : Box Pat Global) → pattern_view (Attribute c p) ≡ t.attribute (boxed_class_view c) (boxed_view p)
-view-Attribute c p = search (rules, the_lemmas)
-
-pub view-List : (p : Box Pat Global) → pattern_view (List p) ≡ t.list (pattern_view p.value)
-view-List p = search (rules, the_lemmas)
-
-pub view-Mixed : (p : Box Pat Global) → pattern_view (Mixed p) ≡ t.mixed (pattern_view p.value)
-view-Mixed p = search (rules, the_lemmas)
+pub view-Attribute : (n : Box Named Global) → pattern_view (Attribute n) ≡ t.attribute (class_view n.value.class) (pattern_view n.value.content)
+view-Attribute n = search (rules, the_lemmas)
 
 pub view-Empty : pattern_view Empty ≡ t.empty
 view-Empty = search (rules, the_lemmas)
@@ -44,3 +39,8 @@ view-Repeated s p = search (rules, the_lemmas)
 pub boxed_is : (x : Pat) {y : t.Pattern} (behind : ℕ) (r : Result (Box Pat Global × ℕ) Fault) → Makes (λ b. b.value) x behind r → pattern_view x ≡ y → Makes boxed_view y behind r
 boxed_is x behind (Ok r) m seen = (ap pattern_view m.0 ∙ seen, m.1)
 boxed_is x behind (Err e) m seen = m
+
+-- a class and what is in braces behind it, in a box, where there is memory for it
+pub named_is : (x : Named) (behind : ℕ) (r : Result (Box Named Global × ℕ) Fault) → Makes (λ b. b.value) x behind r → Makes boxed_named_view (class_view x.class, pattern_view x.content) behind r
+named_is x behind (Ok r) m = (ap (λ (n : Named). (class_view n.class, pattern_view n.content)) m.0, m.1)
+named_is x behind (Err e) m = m

@@ -2,4 +2,4 @@ use Rattle.rn_syntax.proofs.ProductionsRead.PatternViews.{boxed_is, view-Attribu
 use Rattle.rn_syntax.proofs.constructors.attribute.Goals as goal
 
 pub returns : goal.returns
-returns c = boxed_is _ c.args.end c.boxed.result c.boxed.ensures (view-Attribute _ _)
+returns c = boxed_is _ c.args.end c.boxed.result c.boxed.ensures (view-Attribute _)

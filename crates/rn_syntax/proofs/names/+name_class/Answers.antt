@@ -1,7 +1,8 @@
 use Rattle.std.proofs.Common.{◌+◌, ◌++◌, ◌∷◌, [], ◌∙◌, sym, ap, map, arith, refl}
 use Rattle.std.proofs.lemmas.Result.{err_from_is_err_and}
 use Rattle.rn_syntax.specs.Grammar as g
-use Rattle.rn_syntax.specs.View.{class_view, boxed_class_view, any_view}
+use Rattle.rn_syntax.specs.View.{class_view, any_view}
+use Rattle.rn_syntax.specs.inside.Boxes.{boxed_class_view}
 use Rattle.rn_syntax.proofs.ProductionsRead.Compose.{on_fault, made_advanced, made_reads, one_on, passed_past, advanced_on, took_upto, stuck_upto, reads_upto, upto_then}
 use Rattle.rn_syntax.proofs.ProductionsRead.Chaining.{chain_read, chain_stuck, chain_end, pushed}
 use Rattle.rn_syntax.specs.Terminal.{operator}
@@ -26,10 +27,10 @@ pub class_core-returns-in-Keyword-clause-reads : goal.class_core-returns-in-Keyw
 class_core-returns-in-Keyword-clause-reads t c = made_reads boxed_class_view c.args.tokens.now c.args.at (c.args.at + 1) c.single_name-in-Keyword.result c.single_name-in-Keyword.ensures (λ s. word_core (word_at_keyword c.keyword_text-name.ensures) c.in-Keyword.ensures.next.1)
 
 pub class_core-returns-in-Prefixed-clause-inside : goal.class_core-returns-in-Prefixed-clause-inside
-class_core-returns-in-Prefixed-clause-inside t c = made_advanced boxed_class_view _ _ _ _ c.single_name-in-Prefixed.result c.single_name-in-Prefixed.ensures (one_on c.in-Prefixed.ensures.inside)
+class_core-returns-in-Prefixed-clause-inside t c = made_advanced boxed_class_view _ _ _ _ c.prefixed_name.result c.prefixed_name.ensures (one_on c.in-Prefixed.ensures.inside)
 
 pub class_core-returns-in-Prefixed-clause-reads : goal.class_core-returns-in-Prefixed-clause-reads
-class_core-returns-in-Prefixed-clause-reads t c = made_reads boxed_class_view c.args.tokens.now c.args.at (c.args.at + 1) c.single_name-in-Prefixed.result c.single_name-in-Prefixed.ensures (λ s. let n = c.in-Prefixed.ensures.next in rw (c.prefix_name.ensures, c.local_name.ensures) (prefixed_core (place_is c.args.tokens.now n.1 c.place.ensures) n.1))
+class_core-returns-in-Prefixed-clause-reads t c = made_reads boxed_class_view c.args.tokens.now c.args.at (c.args.at + 1) c.prefixed_name.result c.prefixed_name.ensures (λ s. let n = c.in-Prefixed.ensures.next in rw (c.prefix_name.ensures, c.local_name.ensures) (prefixed_core (place_is c.args.tokens.now n.1 c.place.ensures) n.1))
 
 pub class_core-returns-in_err-class-in-LeftParen-clause-reads : goal.class_core-returns-in_err-class-in-LeftParen-clause-reads
 class_core-returns-in_err-class-in-LeftParen-clause-reads t c =
@@ -137,12 +138,6 @@ class_operand-returns-in-Ident-clause-reads t c =
     reads_upto boxed_class_view c.args.tokens.now c.args.at c.args.at _ (λ r g. g) (λ s. upto_then (operand_body (bare_here _ w.0)) (operand_plain w.1)) c.class_end.ensures.reads
 
 -- ---- name classes
-
-pub name_class-returns-in-Some-clause-inside : goal.name_class-returns-in-Some-clause-inside
-name_class-returns-in-Some-clause-inside t c = made_advanced boxed_class_view _ _ _ _ c.single_name.result c.single_name.ensures (one_on c.in-Some.ensures.inside)
-
-pub name_class-returns-in-Some-clause-reads : goal.name_class-returns-in-Some-clause-reads
-name_class-returns-in-Some-clause-reads t c = made_reads boxed_class_view c.args.tokens.now c.args.at (c.args.at + 1) c.single_name.result c.single_name.ensures (λ s. c.in-Some.ensures.reads)
 
 pub name_class-returns-in_err-first-clause-reads : goal.name_class-returns-in_err-first-clause-reads
 name_class-returns-in_err-first-clause-reads t c =

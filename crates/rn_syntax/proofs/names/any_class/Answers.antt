@@ -1,5 +1,6 @@
 use Rattle.std.proofs.lemmas.Result.{err_from_is_err_and}
-use Rattle.rn_syntax.specs.View.{any_view, boxed_class_view}
+use Rattle.rn_syntax.specs.View.{any_view}
+use Rattle.rn_syntax.specs.inside.Boxes.{boxed_class_view}
 use Rattle.rn_syntax.specs.Tree as t
 use Rattle.rn_syntax.proofs.ProductionsRead.Compose.{on_fault, made_passed, made_reads}
 use Rattle.rn_syntax.proofs.ProductionsRead.Classes.{followed_took, followed_stuck}

@@ -5,10 +5,11 @@ use Rattle.rn_text.specs.declared.keywords.Keyword.TheVariants as word
 use Rattle.rn_syntax.specs.Terminal.{operator, right_brace}
 use Rattle.rn_syntax.specs.Tree as tree
 use Rattle.rn_syntax.specs.View.{boxed_view, datatype_view, params_view, pattern_view}
+use Rattle.rn_syntax.specs.inside.Boxes.{boxed_named_view}
 use Rattle.rn_syntax.specs.inside.Follow.{first_terminal}
 use Rattle.rn_syntax.proofs.ProductionsRead.Compose.{on_fault, took_same, token_took, reads_upto, made_reads, made_passed, made_advanced, later, one_on, passed_on, passed_past}
 use Rattle.rn_syntax.proofs.ProductionsRead.Next.{terminal_at, next_two, place_is}
-use Rattle.rn_syntax.proofs.ProductionsRead.PatternViews.{boxed_is}
+use Rattle.rn_syntax.proofs.ProductionsRead.PatternViews.{named_is}
 use Rattle.rn_syntax.proofs.ProductionsRead.Chaining.{chain_read, chain_stuck, chain_end, pushed}
 use Rattle.rn_syntax.proofs.ProductionsRead.Chains.{operands_chain, pattern_stuck, pattern_alone, pattern_first, operands_same}
 use Rattle.rn_syntax.proofs.ProductionsRead.Operands.{no_segment, text_stuck, text_read, params_stuck, params_read, datum_read, except_stuck, except_took, core_made}
@@ -25,30 +26,29 @@ braced-returns-in_err-inside-clause-reads t c =
     rw (p.1, p.2) (on_fault c.args.tokens.now c.args.at c.args.at _ (λ s bad k. open_stuck k) c.in_err-inside.ensures.passes)
 
 pub braced-returns-in-Some-clause-inside : goal.braced-returns-in-Some-clause-inside
-braced-returns-in-Some-clause-inside t c = made_advanced (λ b. b.value) _ _ _ _ c.boxed.result c.boxed.ensures (record { further = omega (arith, c.in_ok-inside.ensures.inside.further); inside = omega (arith, c.in-Some.ensures.inside) })
+braced-returns-in-Some-clause-inside t c = record { further = omega (arith, c.in_ok-inside.ensures.inside.further); inside = omega (arith, c.in-Some.ensures.inside) }
 
 pub braced-returns-in-Some-clause-reads : goal.braced-returns-in-Some-clause-reads
 braced-returns-in-Some-clause-reads t c =
     let inside = c.in_ok-inside.inside in
     let brace = terminal_at c.args.tokens.now (inside + 1) right_brace c.in-Some.ensures.inside c.in-Some.ensures.brace in
-    made_reads boxed_view c.args.tokens.now c.args.at (inside + 2) c.boxed.result (boxed_is _ _ c.boxed.result c.boxed.ensures refl)
-    (λ s. braced_took (c.in_ok-inside.ensures.passes s).1 c.in-Some.ensures.reads (token_took (next_two c.args.tokens.now inside brace.1)))
+    λ s. braced_took (c.in_ok-inside.ensures.passes s).1 c.in-Some.ensures.reads (token_took (next_two c.args.tokens.now inside brace.1))
 
 pub braced-returns-in_err-content-clause-reads : goal.braced-returns-in_err-content-clause-reads
 braced-returns-in_err-content-clause-reads t c =
     let p = err_from_is_err_and c.from_residual-in_err-content.result c.from_residual-in_err-content.ensures.1 in
     rw (p.1, p.2) (on_fault c.args.tokens.now c.in_ok-inside.inside c.args.at _ (λ s bad k. braces_inner (c.in_ok-inside.ensures.passes s).1 k) c.in_err-content.ensures.reads)
 
-pub braced-returns-in_err-right_brace-clause-reads : goal.braced-returns-in_err-right_brace-clause-reads
-braced-returns-in_err-right_brace-clause-reads t c =
-    let p = err_from_is_err_and c.from_residual-in_err-right_brace.result c.from_residual-in_err-right_brace.ensures.1 in
-    rw (p.1, p.2) (on_fault c.args.tokens.now c.in_ok-content.end c.args.at _ (λ s bad k. braces_close (c.in_ok-inside.ensures.passes s).1 (c.in_ok-content.ensures.reads s) k) c.in_err-right_brace.ensures.passes)
+pub braced-returns-in_err-behind-clause-reads : goal.braced-returns-in_err-behind-clause-reads
+braced-returns-in_err-behind-clause-reads t c =
+    let p = err_from_is_err_and c.from_residual-in_err-behind.result c.from_residual-in_err-behind.ensures.1 in
+    rw (p.1, p.2) (on_fault c.args.tokens.now c.in_ok-content.end c.args.at _ (λ s bad k. braces_close (c.in_ok-inside.ensures.passes s).1 (c.in_ok-content.ensures.reads s) k) c.in_err-behind.ensures.passes)
 
 pub braced-returns-clause-inside : goal.braced-returns-clause-inside
-braced-returns-clause-inside t c = record { further = omega (arith, c.in_ok-inside.ensures.inside.further, c.in_ok-content.ensures.inside.further, c.in_ok-right_brace.ensures.inside.further); inside = c.in_ok-right_brace.ensures.inside.inside }
+braced-returns-clause-inside t c = record { further = omega (arith, c.in_ok-inside.ensures.inside.further, c.in_ok-content.ensures.inside.further, c.in_ok-behind.ensures.inside.further); inside = c.in_ok-behind.ensures.inside.inside }
 
 pub braced-returns-clause-reads : goal.braced-returns-clause-reads
-braced-returns-clause-reads t c = λ s. braced_took (c.in_ok-inside.ensures.passes s).1 (c.in_ok-content.ensures.reads s) (c.in_ok-right_brace.ensures.passes s).1
+braced-returns-clause-reads t c = λ s. took_same (ap pattern_view (sym c.into_inner.ensures)) (braced_took (c.in_ok-inside.ensures.passes s).1 (c.in_ok-content.ensures.reads s) (c.in_ok-behind.ensures.passes s).1)
 
 pub named-returns-in_err-class-clause-reads : goal.named-returns-in_err-class-clause-reads
 named-returns-in_err-class-clause-reads t c =
@@ -61,34 +61,34 @@ named-returns-in_err-content-clause-reads t c =
     rw (p.1, p.2) (on_fault c.args.tokens.now c.in_ok-class.end c.args.at _ (λ s bad k. content_stuck (c.in_ok-class.ensures.reads s) k) c.in_err-content.ensures.reads)
 
 pub named-returns-clause-inside : goal.named-returns-clause-inside
-named-returns-clause-inside t c = record { further = omega (arith, c.in_ok-class.ensures.inside.further, c.in_ok-content.ensures.inside.further); inside = c.in_ok-content.ensures.inside.inside }
+named-returns-clause-inside t c = made_advanced (λ b. b.value) _ _ _ _ c.boxed.result c.boxed.ensures (record { further = omega (arith, c.in_ok-class.ensures.inside.further, c.in_ok-content.ensures.inside.further); inside = c.in_ok-content.ensures.inside.inside })
 
 pub named-returns-clause-reads : goal.named-returns-clause-reads
-named-returns-clause-reads t c = λ s. content_took (c.in_ok-class.ensures.reads s) (c.in_ok-content.ensures.reads s)
+named-returns-clause-reads t c = made_reads boxed_named_view c.args.tokens.now c.args.at c.in_ok-content.behind c.boxed.result (named_is _ _ c.boxed.result c.boxed.ensures) (λ s. content_took (c.in_ok-class.ensures.reads s) (c.in_ok-content.ensures.reads s))
 
 -- ---- cores
 
-pub keyword_core-returns-in_err-class-in-Element-clause-reads : goal.keyword_core-returns-in_err-class-in-Element-clause-reads
-keyword_core-returns-in_err-class-in-Element-clause-reads t c =
+pub keyword_core-returns-in_err-named-in-Element-clause-reads : goal.keyword_core-returns-in_err-named-in-Element-clause-reads
+keyword_core-returns-in_err-named-in-Element-clause-reads t c =
     let p = err_from_is_err_and c.from_residual.result c.from_residual.ensures.1 in
-    rw (p.1, p.2) (on_fault c.args.tokens.now (c.args.at + 1) c.args.at _ (λ s bad k. element_stuck (keyword_here c.args.tokens.now c.args.at word.Element c.requires.inside c.requires.here c.in-Element.is).1 k) c.in_err-class-in-Element.ensures.reads)
+    rw (p.1, p.2) (on_fault c.args.tokens.now (c.args.at + 1) c.args.at _ (λ s bad k. element_stuck (keyword_here c.args.tokens.now c.args.at word.Element c.requires.inside c.requires.here c.in-Element.is).1 k) c.in_err-named-in-Element.ensures.reads)
 
-pub keyword_core-returns-in_ok-class-in-Element-clause-inside : goal.keyword_core-returns-in_ok-class-in-Element-clause-inside
-keyword_core-returns-in_ok-class-in-Element-clause-inside t c = made_advanced boxed_view _ _ _ _ c.element.result c.element.ensures (later _ c.in_ok-class-in-Element.ensures.inside)
+pub keyword_core-returns-in_ok-named-in-Element-clause-inside : goal.keyword_core-returns-in_ok-named-in-Element-clause-inside
+keyword_core-returns-in_ok-named-in-Element-clause-inside t c = made_advanced boxed_view _ _ _ _ c.element.result c.element.ensures (later _ c.in_ok-named-in-Element.ensures.inside)
 
-pub keyword_core-returns-in_ok-class-in-Element-clause-reads : goal.keyword_core-returns-in_ok-class-in-Element-clause-reads
-keyword_core-returns-in_ok-class-in-Element-clause-reads t c = made_reads boxed_view c.args.tokens.now c.args.at c.in_ok-class-in-Element.end c.element.result c.element.ensures (λ s. element_took (keyword_here c.args.tokens.now c.args.at word.Element c.requires.inside c.requires.here c.in-Element.is).1 (c.in_ok-class-in-Element.ensures.reads s))
+pub keyword_core-returns-in_ok-named-in-Element-clause-reads : goal.keyword_core-returns-in_ok-named-in-Element-clause-reads
+keyword_core-returns-in_ok-named-in-Element-clause-reads t c = made_reads boxed_view c.args.tokens.now c.args.at c.in_ok-named-in-Element.end c.element.result c.element.ensures (λ s. element_took (keyword_here c.args.tokens.now c.args.at word.Element c.requires.inside c.requires.here c.in-Element.is).1 (c.in_ok-named-in-Element.ensures.reads s))
 
-pub keyword_core-returns-in_err-class-in-Attribute-clause-reads : goal.keyword_core-returns-in_err-class-in-Attribute-clause-reads
-keyword_core-returns-in_err-class-in-Attribute-clause-reads t c =
-    let p = err_from_is_err_and c.from_residual-in_err-class-in-Attribute.result c.from_residual-in_err-class-in-Attribute.ensures.1 in
-    rw (p.1, p.2) (on_fault c.args.tokens.now (c.args.at + 1) c.args.at _ (λ s bad k. attribute_stuck (keyword_here c.args.tokens.now c.args.at word.Attribute c.requires.inside c.requires.here c.in-Attribute.is).1 k) c.in_err-class-in-Attribute.ensures.reads)
+pub keyword_core-returns-in_err-named-in-Attribute-clause-reads : goal.keyword_core-returns-in_err-named-in-Attribute-clause-reads
+keyword_core-returns-in_err-named-in-Attribute-clause-reads t c =
+    let p = err_from_is_err_and c.from_residual-in_err-named-in-Attribute.result c.from_residual-in_err-named-in-Attribute.ensures.1 in
+    rw (p.1, p.2) (on_fault c.args.tokens.now (c.args.at + 1) c.args.at _ (λ s bad k. attribute_stuck (keyword_here c.args.tokens.now c.args.at word.Attribute c.requires.inside c.requires.here c.in-Attribute.is).1 k) c.in_err-named-in-Attribute.ensures.reads)
 
-pub keyword_core-returns-in_ok-class-in-Attribute-clause-inside : goal.keyword_core-returns-in_ok-class-in-Attribute-clause-inside
-keyword_core-returns-in_ok-class-in-Attribute-clause-inside t c = made_advanced boxed_view _ _ _ _ c.attribute.result c.attribute.ensures (later _ c.in_ok-class-in-Attribute.ensures.inside)
+pub keyword_core-returns-in_ok-named-in-Attribute-clause-inside : goal.keyword_core-returns-in_ok-named-in-Attribute-clause-inside
+keyword_core-returns-in_ok-named-in-Attribute-clause-inside t c = made_advanced boxed_view _ _ _ _ c.attribute.result c.attribute.ensures (later _ c.in_ok-named-in-Attribute.ensures.inside)
 
-pub keyword_core-returns-in_ok-class-in-Attribute-clause-reads : goal.keyword_core-returns-in_ok-class-in-Attribute-clause-reads
-keyword_core-returns-in_ok-class-in-Attribute-clause-reads t c = made_reads boxed_view c.args.tokens.now c.args.at c.in_ok-class-in-Attribute.end c.attribute.result c.attribute.ensures (λ s. attribute_took (keyword_here c.args.tokens.now c.args.at word.Attribute c.requires.inside c.requires.here c.in-Attribute.is).1 (c.in_ok-class-in-Attribute.ensures.reads s))
+pub keyword_core-returns-in_ok-named-in-Attribute-clause-reads : goal.keyword_core-returns-in_ok-named-in-Attribute-clause-reads
+keyword_core-returns-in_ok-named-in-Attribute-clause-reads t c = made_reads boxed_view c.args.tokens.now c.args.at c.in_ok-named-in-Attribute.end c.attribute.result c.attribute.ensures (λ s. attribute_took (keyword_here c.args.tokens.now c.args.at word.Attribute c.requires.inside c.requires.here c.in-Attribute.is).1 (c.in_ok-named-in-Attribute.ensures.reads s))
 
 pub keyword_core-returns-in_err-content-in-List-clause-reads : goal.keyword_core-returns-in_err-content-in-List-clause-reads
 keyword_core-returns-in_err-content-in-List-clause-reads t c =

@@ -1,5 +1,0 @@
-use Rattle.rn_syntax.proofs.ProductionsRead.PatternViews.{boxed_is, view-Mixed}
-use Rattle.rn_syntax.proofs.constructors.mixed.Goals as goal
-
-pub returns : goal.returns
-returns c = boxed_is _ c.args.end c.boxed.result c.boxed.ensures (view-Mixed _)
