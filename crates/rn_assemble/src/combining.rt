@@ -154,13 +154,12 @@ impl Combining {
     }
 }
 
-/// Nothing is resolved yet: an entry for each body, or none where no body can stand twice, since the list is no longer
-/// than that of bodies.
+/// Nothing is resolved yet: an entry for each body, or none where no body can stand twice.
 fn nothing_shared(alloc: Global, components: &Components<'_, '_, '_>) -> Result<Shared, AllocError>
     ensures { (names : List Text) (trees : TreeView) → IfOk result (λ shared.
         AreShared names trees components.now.bodies shared.items) }
 {
-    if components.count() > components.count_bodies() {
+    if components.may_repeat_bodies() {
         Ok(vec![in alloc; None; components.count_bodies()]?)
     } else {
         Ok(Vec::new(alloc))

@@ -1,5 +1,5 @@
 // The components of a set: bodies, which of them stand in the list, and where those of each key stand.
-ghost use Rattle.std.specs.Prelude.{◌≡◌, IsTrue, ℕ, ◌+◌, ◌-◌, ◌<◌, ◌≤◌, ◌==◌, not, List, [], ◌∷◌, ◌++◌, filter, length, slice_get, slice_index_or, Contains, IfOk, IfSome};
+ghost use Rattle.std.specs.Prelude.{◌≡◌, ◌↔◌, IsTrue, ℕ, ◌+◌, ◌-◌, ◌<◌, ◌≤◌, ◌==◌, not, List, [], ◌∷◌, ◌++◌, filter, length, slice_get, slice_index_or, Contains, IfOk, IfSome};
 ghost use Rattle.std.specs.List.{AllByRecursion};
 ghost use Rattle.std.specs.Rc.{rc_str_bytes};
 ghost use Rattle.rn_text.specs.Texts.{Text};
@@ -248,6 +248,13 @@ impl<'c, 't, 's> Components<'c, 't, 's> {
         ensures { result ≡ length self.now.bodies }
     {
         self.bodies.len()
+    }
+
+    /// Whether some body may stand twice: whether there are more components than bodies.
+    pub fn may_repeat_bodies(&self) -> bool
+        ensures { IsTrue result ↔ length self.now.bodies < length self.now.list }
+    {
+        self.count() > self.count_bodies()
     }
 
     /// The body of that number.

@@ -20,10 +20,9 @@ struct NearFirsts {
 }
 
 impl Components<'_, '_, '_> {
-    /// Nothing is met: an index for each body, or none where no body can stand twice, since the list is no longer than
-    /// that of bodies.
+    /// Nothing is met: an index for each body, or none where no body can stand twice.
     pub fn nothing_met(&self, alloc: Global) -> Result<Met, AllocError> {
-        if self.count() > self.count_bodies() {
+        if self.may_repeat_bodies() {
             Ok(vec![in alloc; 0; self.count_bodies()]?)
         } else {
             Ok(Vec::new(alloc))

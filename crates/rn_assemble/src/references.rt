@@ -1,5 +1,5 @@
 // The references of the keys.
-ghost use Rattle.std.specs.Prelude.{ℕ, ◌≡◌, ◌+◌, ◌<◌, ◌↔◌, List, [], ◌∷◌, length, ◌++◌, vec_len, map, nat_eq, option_map, is_some, slice_index_or, MatchResult, IfOk, IsTrue, OnOk};
+ghost use Rattle.std.specs.Prelude.{ℕ, ◌≡◌, ◌+◌, ◌<◌, ◌↔◌, List, [], ◌∷◌, length, ◌++◌, map, nat_eq, option_map, is_some, slice_index_or, MatchResult, IfOk, IsTrue, OnOk};
 ghost use Rattle.std.specs.List.{AllByRecursion, IsDistinct};
 ghost use Rattle.std.specs.List.Sorted.{IsStrictlySortedBy};
 ghost use Rattle.rn_text.specs.Texts.{Text, text_cmp};
@@ -13,18 +13,21 @@ ghost use Rattle.rn_assemble.specs.Least.{IsLeast};
 ghost use Rattle.rn_pattern.specs.declared.references.Reach.TheVariants.{Everywhere, OutsideElements};
 ghost use Rattle.rn_assemble.specs.inside.Keyed.{IsFound};
 ghost use Rattle.rn_assemble.specs.inside.ReferenceOrder.{AreDefinedKeys};
-ghost use Rattle.rn_assemble.specs.inside.Referred.{AreAllReferences, AreBodiesAt, AreByKey, AreInOrder, AreNumbers, IsFresh, IsLeastUndefined, IsLooked, IsRowNumber, KeepsFresh, KeepsLeast, all_references, lesser_text, names_within, number_within, reference_view, references, references_in, tree_of};
+ghost use Rattle.rn_assemble.specs.inside.Referred.{AreAllReferences, AreByKey, AreInOrder, AreNumbers, IsLeastUndefined, IsRowNumber, KeepsLeast, all_references, lesser_text, names_within, number_within, reference_view, references, references_in, tree_of};
 ghost use Rattle.rn_assemble.specs.inside.Views.{names_of};
 ghost use Rattle.rn_pattern.specs.Matching.{definition_of};
 ghost use Rattle.rn_pattern.specs.Graph.{AllBelow, IsGraph, row, rows_of};
 ghost use Rattle.rn_assemble.specs.inside.Listed.{Lists, Live, OfTrees, components_in};
 ghost use Rattle.rn_assemble.specs.inside.Trees.{TreeView, trees_by};
 
+mod looked_bodies;
+
 use crate::components::{Components, Near};
 use crate::keys::{Keys, NextKey, START};
 use crate::refusal::Refusal;
 use crate::settling_order::definition_numbers;
 use crate::trees::Trees;
+use looked_bodies::{bodies_of, nothing_looked};
 use rn_pattern::{NodeReferences, Reach, ReferenceRows, Rows};
 use rn_syntax::Pat;
 use std::alloc::{AllocError, Global};
@@ -59,7 +62,7 @@ pub(crate) fn references_of<'s>(
         (λ r. AreAllReferences names cs (rows_of r.everywhere) (rows_of r.outside))
         (IsLeastUndefined cs)) }
 {
-    let mut looked: Vec<Option<usize>> = vec![in alloc; None; components.count_bodies()]?;
+    let mut looked = nothing_looked(alloc, components)?;
     let mut bodies = Vec::new(alloc);
     let mut references = Vec::new(alloc);
     let mut row = NodeReferences::new(alloc);
@@ -192,43 +195,6 @@ fn undefined_name(alloc: Global, name: &str) -> Refusal
         Ok(name) => Refusal::Undefined { name },
         Err(_) => Refusal::Memory,
     }
-}
-
-/// Puts the bodies of a key's components into `bodies`, each once, in the place of what it held.
-fn bodies_of(
-    components: &Components<'_, '_, '_>,
-    key: usize,
-    looked: &mut Vec<Option<usize>>,
-    near: &mut Near,
-    bodies: &mut Vec<usize>,
-) -> Result<(), AllocError>
-    requires { IsFresh key looked.old.items }
-    ensures size { vec_len looked.new ≡ vec_len looked.old }
-    ensures fresh { OnOk result (KeepsFresh key looked.old.items looked.new.items) }
-    ensures found { OnOk result (AreBodiesAt (length looked.old.items)
-        components.now.list (row components.now.places.items key) bodies.new.items) }
-{
-    bodies.clear();
-    for index in 0..components.count_of(key) {
-        let body = components.body_of(key, index, near);
-        if let Some(number) = look(body, key, looked) {
-            bodies.push(number)?;
-        }
-    }
-    Ok(())
-}
-
-/// The body, if there is one and it was not looked at under the key.
-fn look(body: Option<usize>, key: usize, looked: &mut Vec<Option<usize>>) -> Option<usize>
-    ensures size { vec_len looked.new ≡ vec_len looked.old }
-    ensures looked { IsLooked body key looked.old.items looked.new.items result }
-{
-    let number = body?;
-    if number >= looked.len() || looked[number] == Some(key) {
-        return None;
-    }
-    looked[number] = Some(key);
-    Some(number)
 }
 
 /// Puts the references of the bodies with these numbers into `found`, in the place of what it held.

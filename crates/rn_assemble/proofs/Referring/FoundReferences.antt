@@ -87,7 +87,6 @@ module _ (names : List Text) (trees : TreeView) (bs : List Body) (list : List �
   pub record Shown (e : Live) : Type 0 where
     pub number : ℕ
     pub at : slice_get list e.place ≡ Some number
-    pub within : number < length bs
     pub body : Body
     pub is : slice_get bs number ≡ Some body
     pub made : IsBody names trees body e.key e.component
@@ -96,7 +95,7 @@ module _ (names : List Text) (trees : TreeView) (bs : List Body) (list : List �
   shown e l =
       let n = get_or list e.place 0 in
       let b = some_body bs n l.body_within in
-      record { number = n; at = got list e.place l.within 0; within = l.body_within; body = b.0; is = b.1; made = subst (λ c. IsBody names trees c e.key e.component) (b.2 b.0) (l.is b.0) }
+      record { number = n; at = got list e.place l.within 0; body = b.0; is = b.1; made = subst (λ c. IsBody names trees c e.key e.component) (b.2 b.0) (l.is b.0) }
 
   pub keyed : (e : Live) → IsLive names trees bs list e → IsKeyed names e
   keyed e l =
@@ -138,7 +137,7 @@ module _ (names : List Text) (trees : TreeView) (bs : List Body) (list : List �
           let r = same i ds y (trees s.body.component.key s.body.component.tree) in
           ((λ c. subst (R y) (sym is) (r.0 (n.0 c))), λ h. n.1 (r.1 (subst (R y) is h)))
 
-      pub names_are : (k : ℕ) (ns : List ℕ) → k < suc (length names) → AreBodiesAt (length bs) list (row rows k) ns → (y : Text) → Contains (flat_map (names_at trees f bs) ns) y ↔ R y (joined_pattern cs (key_at names k))
+      pub names_are : (k : ℕ) (ns : List ℕ) → k < suc (length names) → AreBodiesAt list (row rows k) ns → (y : Text) → Contains (flat_map (names_at trees f bs) ns) y ↔ R y (joined_pattern cs (key_at names k))
       names_are k ns h a y = (into, back)
         where
           into : Contains (flat_map (names_at trees f bs) ns) y → R y (joined_pattern cs (key_at names k))
@@ -159,7 +158,7 @@ module _ (names : List Text) (trees : TreeView) (bs : List Body) (list : List �
               let c = map_contained (λ (c : Component). c.body) (components_in (of_number k)) p.0 (subst (λ ps. Contains ps p.0) (bodies_are k h) p.1) in
               let e = map_contained (λ (e : Live). e.component) (of_number k) c.0 c.1 in
               let s = shown e.0 (live_at k e.0 e.1) in
-              let n = a.all e.0.place s.number (subst (λ xs. Contains xs e.0.place) (sym (row_is k h)) (map_contains (λ (e : Live). e.place) (of_number k) e.0 e.1)) s.at s.within in
+              let n = a.all e.0.place s.number (subst (λ xs. Contains xs e.0.place) (sym (row_is k h)) (map_contains (λ (e : Live). e.place) (of_number k) e.0 e.1)) s.at in
               flat_contains (names_at trees f bs) ns s.number y n ((body_refers e.0 s y).1 (subst (R y) (sym (ap (λ (d : Component). d.body) e.2 ∙ c.2)) p.2))
 
     -- ---- names that are defined

@@ -168,12 +168,12 @@ module _ {trees : TreeView} (names : List Text) (bs : List Body) (list : List �
         }
 
   -- the names that the bodies of a key refer to
-  pub names_anywhere : (k : ℕ) (ns : List ℕ) (texts : List Text) → k < suc (length names) → AreBodiesAt (length bs) list (row rows k) ns → texts ≡ names_within Everywhere (flat_map (references_at trees bs) ns) → (y : Text) → Contains texts y ↔ RefersTo y (joined_pattern cs (key_at names k))
+  pub names_anywhere : (k : ℕ) (ns : List ℕ) (texts : List Text) → k < suc (length names) → AreBodiesAt list (row rows k) ns → texts ≡ names_within Everywhere (flat_map (references_at trees bs) ns) → (y : Text) → Contains texts y ↔ RefersTo y (joined_pattern cs (key_at names k))
   names_anywhere k ns texts h a t y =
       subst (λ ts. Contains ts y ↔ RefersTo y (joined_pattern cs (key_at names k))) (sym (t ∙ names_of_bodies Everywhere trees bs ns))
       (names_are names trees bs list rows live lists sorted (named_in Everywhere) RefersTo (λ i ds z p. referred i ds z OutsideElements p) (λ z j. refers_of_joined z cs j) (λ z j p. refers_to_joined z cs j p) k ns h a y)
 
-  pub names_outside : (k : ℕ) (ns : List ℕ) (texts : List Text) → k < suc (length names) → AreBodiesAt (length bs) list (row rows k) ns → texts ≡ names_within OutsideElements (flat_map (references_at trees bs) ns) → (y : Text) → Contains texts y ↔ RefersOutside y (joined_pattern cs (key_at names k))
+  pub names_outside : (k : ℕ) (ns : List ℕ) (texts : List Text) → k < suc (length names) → AreBodiesAt list (row rows k) ns → texts ≡ names_within OutsideElements (flat_map (references_at trees bs) ns) → (y : Text) → Contains texts y ↔ RefersOutside y (joined_pattern cs (key_at names k))
   names_outside k ns texts h a t y =
       subst (λ ts. Contains ts y ↔ RefersOutside y (joined_pattern cs (key_at names k))) (sym (t ∙ names_of_bodies OutsideElements trees bs ns))
       (names_are names trees bs list rows live lists sorted (named_in OutsideElements) RefersOutside referred_outside (λ z j. outside_of_joined z cs j) (λ z j p. outside_to_joined z cs j p) k ns h a y)

@@ -100,9 +100,9 @@ number_within meant r None = []
 number_within meant r (Some k) = within meant r k
 
 -- the numbers of the bodies at these places, in any order
-pub record AreBodiesAt (size : ℕ) (list places : List ℕ) (bodies : List ℕ) : Type 0 where
+pub record AreBodiesAt (list places : List ℕ) (bodies : List ℕ) : Type 0 where
   pub only : (n : ℕ) → Contains bodies n → (place : ℕ) × Contains places place × (slice_get list place ≡ Some n)
-  pub all : (place n : ℕ) → Contains places place → slice_get list place ≡ Some n → n < size → Contains bodies n
+  pub all : (place n : ℕ) → Contains places place → slice_get list place ≡ Some n → Contains bodies n
 
 -- by number, the key under which a body was looked at last
 abbrev pub looked_under : List (Option ℕ) → ℕ → Option ℕ
@@ -116,10 +116,10 @@ IsFresh key looked = (n : ℕ) → looked_under looked n ≢ Some key
 abbrev pub KeepsFresh : ℕ → (old new : List (Option ℕ)) → Type 0
 KeepsFresh key old new = (other : ℕ) → other ≢ key → IsFresh other old → IsFresh other new
 
--- the body was looked at under the key before, or it is now
+-- the body was looked at under the key before, or it is now; one beyond the list leaves it as it is
 abbrev pub IsLooked : Option ℕ → ℕ → (old new : List (Option ℕ)) → Option ℕ → Type 0
-IsLooked body key old new None = (new ≡ old) × ((n : ℕ) → body ≡ Some n → n < length old → looked_under old n ≡ Some key)
-IsLooked body key old new (Some n) = (body ≡ Some n) × (n < length old) × (new ≡ slice_set old n (Some key))
+IsLooked body key old new None = (new ≡ old) × ((n : ℕ) → body ≡ Some n → looked_under old n ≡ Some key)
+IsLooked body key old new (Some n) = (body ≡ Some n) × (new ≡ slice_set old n (Some key))
 
 abbrev pub lesser_text : Option Text → Text → Text
 lesser_text None x = x

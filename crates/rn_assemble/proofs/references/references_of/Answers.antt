@@ -1,5 +1,5 @@
 -- The references of the keys so far, and those of one key more.
-use Rattle.std.proofs.Common.{◌≡◌, ◌≢◌, ◌+◌, ◌<◌, ◌∷◌, suc, flat_map, get_or, map, length, nat_eq, sym, ap, ◌∙◌, subst, arith, rules, None, Some, option_map}
+use Rattle.std.proofs.Common.{◌≡◌, ◌≢◌, ◌+◌, ◌<◌, ◌∷◌, suc, flat_map, get_or, map, length, nat_eq, sym, ap, ◌∙◌, subst, arith, None, Some, option_map}
 use Rattle.std.specs.List.{AllByRecursion}
 use Rattle.std.proofs.lemmas.Bool.{false≢true}
 use Rattle.std.proofs.lemmas.Bool.Decides.{Decides-eqb}
@@ -16,7 +16,6 @@ use Rattle.rn_assemble.specs.inside.Referred.{AreBodiesAt, AreByKey, IsFresh, na
 use Rattle.rn_pattern.specs.declared.references.Reach.TheVariants.{Everywhere, OutsideElements}
 use Rattle.rn_assemble.specs.inside.Trees.{trees_by}
 use Rattle.rn_assemble.specs.inside.Views.{names_of}
-use Rattle.rn_assemble.proofs.Joining.BodiesLookedAt.{none_looked}
 use Rattle.rn_assemble.proofs.Referring.GatheredReferences.{Gathered, row_of, gathered_begins, gathered_more, gathered_none, gathered_some, names_anywhere, names_outside}
 use Rattle.rn_assemble.proofs.Referring.RowsByKey.{graph_by_key}
 use Rattle.rn_assemble.proofs.references.references_of.Goals as goal
@@ -27,8 +26,7 @@ loop-number-init c = record {
   everywhere_size = ap length c.in_ok-rows.ensures.everywhere;
   outside = rw (c.in_ok-rows.ensures.outside) (no_rows _);
   outside_size = ap length c.in_ok-rows.ensures.outside;
-  looked = omega (arith, c.in_ok-looked.ensures.len, c.in_ok-looked.looked.ok, c.count_bodies.ensures);
-  fresh = λ i l m. none_looked _ _ _ (c.in_ok-looked.ensures.items_if_clones_equal (λ y h. search rules));
+  fresh = λ i l m. c.in_ok-looked.ensures _;
   gathered = λ live l s. rw (c.in_ok-rows.ensures.everywhere, c.in_ok-rows.ensures.outside) (gathered_begins _ _ _);
 }
 
@@ -51,7 +49,6 @@ loop-number-preserved c =
       everywhere_size = omega (arith, ap length c.in_ok-push_row.ensures.everywhere, length_push (rows_of c.loop-number.rows.everywhere) c.row_of.new.row.everywhere.items, inv.everywhere_size);
       outside = rows_pushed _ _ _ _ inv.outside c.in_ok-row_of.ensures.outside_within c.in_ok-push_row.ensures.outside;
       outside_size = omega (arith, ap length c.in_ok-push_row.ensures.outside, length_push (rows_of c.loop-number.rows.outside) c.row_of.new.row.outside.items, inv.outside_size);
-      looked = omega (arith, c.bodies_of.ensures.size, c.bodies_of.new.looked.ok, c.loop-number.looked.ok, inv.looked);
       fresh = λ i l m.
           let later = get_or all i 0 in
           let other : later ≢ key = λ e.
@@ -67,9 +64,7 @@ loop-number-preserved c =
           let rows = c.args.components.now.places.items in
           let within : k < length names + 1 = contained_each (λ n. n < length names + 1) all (omega arith, c.requires.within) k (Contains-get_or all number 0 here) in
           let h : k < suc (length names) = omega (arith, within) in
-          let size : length c.loop-number.looked.items ≡ length bs = inv.looked in
-          let at_key = subst (λ n. AreBodiesAt n list (row rows key) c.bodies_of.new.bodies.items) size c.in_ok-bodies_of.ensures.found in
-          let found = subst (λ n. AreBodiesAt (length bs) list (row rows n) c.bodies_of.new.bodies.items) c.key_of_row-key.ensures at_key in
+          let found = subst (λ n. AreBodiesAt list (row rows n) c.bodies_of.new.bodies.items) c.key_of_row-key.ensures c.in_ok-bodies_of.ensures.found in
           let written : map reference_view c.deref-in-loop-number.result.now ≡ flat_map (references_at trees bs) c.bodies_of.new.bodies.items =
           ap (map reference_view) c.deref-in-loop-number.ensures.value ∙ c.in_ok-references_in.ensures ∙ ap (flat_map (references_at trees bs)) c.deref.ensures.value in
           let texts = names_within Everywhere (map reference_view c.deref-in-loop-number.result.now) in

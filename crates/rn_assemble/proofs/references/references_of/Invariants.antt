@@ -17,7 +17,6 @@ invariant-loop-number l = record {
   everywhere_size : length (rows_of l.rows.everywhere) ≡ l.number;
   outside : AreRows (length (names_of l.keys) + 1) (rows_of l.rows.outside);
   outside_size : length (rows_of l.rows.outside) ≡ l.number;
-  looked : length l.looked.items ≡ length l.components.bodies;
   fresh : (i : ℕ) → l.number ≤ i → i < length (0 ∷ l.defined) → IsFresh (get_or (0 ∷ l.defined) i 0) l.looked.items;
   gathered : (live : List Live) → Lists (names_of l.keys) (trees_by l.trees.trees.items) l.components live → IsStrictlySortedBy text_cmp (names_of l.keys)
       → Gathered (names_of l.keys) (components_in live) (0 ∷ l.defined) (rows_of l.rows.everywhere) (rows_of l.rows.outside) l.number (option_map (λ s. s.now) l.undefined);

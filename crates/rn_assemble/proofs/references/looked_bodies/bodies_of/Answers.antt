@@ -4,8 +4,8 @@ use Rattle.std.specs.declared.alloc.Global.{Global}
 use Rattle.rn_pattern.specs.Graph as graph
 use Rattle.rn_assemble.specs.inside.Referred.{IsLooked}
 use Rattle.rn_assemble.proofs.Joining.BodiesLookedAt.{Looking, looking_begins, looking_on, looking_at, looking_ends, looked_kept, no_value}
-use Rattle.rn_assemble.proofs.references.bodies_of.Goals as goal
-use Rattle.rn_assemble.proofs.references.bodies_of.Goals.{in-Some+in_ok-push, in_default}
+use Rattle.rn_assemble.proofs.references.looked_bodies.bodies_of.Goals as goal
+use Rattle.rn_assemble.proofs.references.looked_bodies.bodies_of.Goals.{in-Some+in_ok-push, in_default}
 
 pub loop-index-init : goal.loop-index-init
 loop-index-init c =
