@@ -18,7 +18,7 @@ use crate::nodes::{
     optional_pattern, reference, typed_datum, typed_value,
 };
 use rn_pattern::boxes::new_box;
-use rn_pattern::{NameClass, Pattern, SmallString};
+use rn_pattern::{NameClass, Named, Pattern, SmallString};
 use rn_syntax::{AnyName, Data, Datatype, Nc, Operator, Param, Pat, Postfix, PrefixedName, Value};
 use std::alloc::{AllocError, Global};
 use std::rc::{Rc, RcStr};
@@ -220,14 +220,14 @@ fn element(
     alloc: Global,
     context: Context<'_, '_>,
     class: &Nc<'_>,
-    content: Box<Pattern>,
+    content: Pattern,
 ) -> Result<Pattern, AllocError>
     ensures { InContext context.entry (λ inherited ds. IfOk result (λ p. pattern_view p
         ≡ tree.element (resolve.resolved_class inherited ds (resolve.default_of inherited ds)
-        (seen.class_view class.now)) (boxed_view content))) }
+        (seen.class_view class.now)) (pattern_view content))) }
 {
     let class = name_class(alloc, context, context.default_namespace(), class)?;
-    Ok(Pattern::Element(new_box(alloc, class)?, content))
+    Ok(Pattern::Element(new_box(alloc, Named { class, content })?))
 }
 
 /// An attribute; a name without prefix is in no namespace.
@@ -235,14 +235,14 @@ fn attribute(
     alloc: Global,
     context: Context<'_, '_>,
     class: &Nc<'_>,
-    content: Box<Pattern>,
+    content: Pattern,
 ) -> Result<Pattern, AllocError>
     ensures { InContext context.entry (λ inherited ds. IfOk result (λ p. pattern_view p
         ≡ tree.attribute (resolve.resolved_class inherited ds [] (seen.class_view class.now))
-        (boxed_view content))) }
+        (pattern_view content))) }
 {
     let class = name_class(alloc, context, &context.bindings.constants.none, class)?;
-    Ok(Pattern::Attribute(new_box(alloc, class)?, content))
+    Ok(Pattern::Attribute(new_box(alloc, Named { class, content })?))
 }
 
 fn chain(operator: Operator, members: Vec<Rc<Pattern>>) -> Pattern
@@ -299,11 +299,11 @@ pub(crate) fn resolve_pattern(
 {
     match written {
         Pat::Element(named) => {
-            let content = pattern(alloc, context, &named.content)?;
+            let content = resolve_pattern(alloc, context, &named.content)?;
             element(alloc, context, &named.class, content)
         }
         Pat::Attribute(named) => {
-            let content = pattern(alloc, context, &named.content)?;
+            let content = resolve_pattern(alloc, context, &named.content)?;
             attribute(alloc, context, &named.class, content)
         }
         Pat::List(content) => Ok(list(pattern(alloc, context, content)?)),

@@ -3,10 +3,10 @@ ghost use Rattle.std.specs.Prelude.{◌≡◌, IfOk, map, string_bytes};
 ghost use Rattle.std.specs.Option.{option_map};
 ghost use Rattle.std.specs.Rc.{rc_str_bytes};
 ghost use Rattle.rn_pattern.specs.Store.{datum_by};
-ghost use Rattle.rn_pattern.specs.View.{boxed_view, name_class_view, parameters_view, pattern_view};
+ghost use Rattle.rn_pattern.specs.View.{boxed_view, name_class_view, named_view, parameters_view, pattern_view};
 ghost use Rattle.rn_pattern.specs.inside.PartViews.{value_view};
 
-use crate::tree::{Data, NameClass, Pattern, Value};
+use crate::tree::{Data, NameClass, Named, Pattern, Value};
 use std::alloc::{AllocError, Global};
 
 impl NameClass {
@@ -68,14 +68,8 @@ impl Pattern {
                 data_over(alloc, data, Some(except))
             }
             Pattern::List(content) => Ok(Pattern::List(boxed_pattern(alloc, content)?)),
-            Pattern::Attribute(class, content) => {
-                let class = boxed_class(alloc, class)?;
-                Ok(Pattern::Attribute(class, boxed_pattern(alloc, content)?))
-            }
-            Pattern::Element(class, content) => {
-                let class = boxed_class(alloc, class)?;
-                Ok(Pattern::Element(class, boxed_pattern(alloc, content)?))
-            }
+            Pattern::Attribute(named) => Ok(Pattern::Attribute(boxed_named(alloc, named)?)),
+            Pattern::Element(named) => Ok(Pattern::Element(boxed_named(alloc, named)?)),
             Pattern::OneOrMore(content) => Ok(Pattern::OneOrMore(boxed_pattern(alloc, content)?)),
             Pattern::Group(members) => Ok(Pattern::Group(members.to_vec(alloc)?)),
             Pattern::Interleave(members) => Ok(Pattern::Interleave(members.to_vec(alloc)?)),
@@ -91,6 +85,16 @@ fn boxed_pattern(alloc: Global, pattern: &Pattern) -> Result<Box<Pattern>, Alloc
 {
     let copy = pattern.try_clone(alloc)?;
     Ok(Box::new(alloc, copy)?)
+}
+
+/// A copy of the names and the content, in a box of its own.
+#[cycle(copy_pattern)]
+fn boxed_named(alloc: Global, named: &Named) -> Result<Box<Named>, AllocError>
+    ensures { IfOk result (λ n. named_view n.value ≡ named_view named.now) }
+{
+    let class = named.class.try_clone(alloc)?;
+    let content = named.content.try_clone(alloc)?;
+    Ok(Box::new(alloc, Named { class, content })?)
 }
 
 /// The pattern of a copy of the value.

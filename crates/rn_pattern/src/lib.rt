@@ -53,7 +53,7 @@ pub use references::{NodeReferences, Reach, ReferenceRows};
 pub use rows::Rows;
 pub use seed::Seed;
 pub use small_string::SmallString;
-pub use tree::{Data, NameClass, Pattern, Value};
+pub use tree::{Data, NameClass, Named, Pattern, Value};
 
 pub mod examples;
 pub mod laws;

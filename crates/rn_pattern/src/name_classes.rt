@@ -141,10 +141,14 @@ pub fn keeps_name_rules(pattern: &Pattern) -> bool
         | Pattern::Datum(_, None) => true,
         Pattern::Datum(_, Some(except)) => keeps_name_rules(except),
         Pattern::List(content) => keeps_name_rules(content),
-        Pattern::Attribute(class, content) => {
-            has_name_excepts(class) && has_no_declaration(class) && keeps_name_rules(content)
+        Pattern::Attribute(named) => {
+            has_name_excepts(&named.class)
+                && has_no_declaration(&named.class)
+                && keeps_name_rules(&named.content)
         }
-        Pattern::Element(class, content) => has_name_excepts(class) && keeps_name_rules(content),
+        Pattern::Element(named) => {
+            has_name_excepts(&named.class) && keeps_name_rules(&named.content)
+        }
         Pattern::OneOrMore(content) => keeps_name_rules(content),
         Pattern::Group(members) => keep_name_rules(members),
         Pattern::Interleave(members) => keep_name_rules(members),

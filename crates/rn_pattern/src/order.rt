@@ -84,8 +84,8 @@ impl Pattern {
             Pattern::Value(_) => 4,
             Pattern::Datum(_, _) => 5,
             Pattern::List(_) => 6,
-            Pattern::Attribute(_, _) => 7,
-            Pattern::Element(_, _) => 8,
+            Pattern::Attribute(_) => 7,
+            Pattern::Element(_) => 8,
             Pattern::OneOrMore(_) => 9,
             Pattern::Group(_) => 10,
             Pattern::Interleave(_) => 11,
@@ -118,8 +118,8 @@ impl Pattern {
                 parameters: &data.params,
                 ..bare
             },
-            Pattern::Attribute(class, _) | Pattern::Element(class, _) => Heads {
-                class: Some(class),
+            Pattern::Attribute(named) | Pattern::Element(named) => Heads {
+                class: Some(&named.class),
                 ..bare
             },
             _ => bare,
@@ -140,8 +140,8 @@ impl Pattern {
         match (self, other) {
             (Pattern::Datum(_, p), Pattern::Datum(_, q)) => compare_excepted(p, q),
             (Pattern::List(p), Pattern::List(q)) => p.cmp(q),
-            (Pattern::Attribute(_, p), Pattern::Attribute(_, q)) => p.cmp(q),
-            (Pattern::Element(_, p), Pattern::Element(_, q)) => p.cmp(q),
+            (Pattern::Attribute(m), Pattern::Attribute(n)) => m.content.cmp(&n.content),
+            (Pattern::Element(m), Pattern::Element(n)) => m.content.cmp(&n.content),
             (Pattern::OneOrMore(p), Pattern::OneOrMore(q)) => p.cmp(q),
             (Pattern::Group(ps), Pattern::Group(qs)) => compare_patterns(ps, qs),
             (Pattern::Interleave(ps), Pattern::Interleave(qs)) => compare_patterns(ps, qs),

@@ -9,12 +9,12 @@ ghost use Rattle.rn_pattern.specs.Order.{tree_cmp};
 ghost use Rattle.rn_pattern.specs.Store.{datum_by, datum_step};
 ghost use Rattle.rn_pattern.specs.Tree.{Parameters, element};
 ghost use Rattle.rn_text.specs.Texts.{Text};
-ghost use Rattle.rn_pattern.specs.View.{boxed_view, name_class_view, parameters_view, pattern_view, shared_view};
+ghost use Rattle.rn_pattern.specs.View.{boxed_view, name_class_view, named_view, parameters_view, pattern_view, shared_view};
 
 use crate::connector::Connector;
 use crate::copies::data_over;
 pub use crate::copies::value_of;
-use crate::tree::{Data, NameClass, Pattern};
+use crate::tree::{Data, NameClass, Named, Pattern};
 use std::alloc::{AllocError, Global};
 use std::cmp::Ordering;
 use std::rc::Rc;
@@ -65,16 +65,15 @@ pub fn list_over(content: Box<Pattern>) -> Pattern
 pub fn attribute_over(
     alloc: Global,
     class: &NameClass,
-    content: Box<Pattern>,
+    content: Pattern,
 ) -> Result<Pattern, AllocError>
     ensures { IfOk result (λ p. pattern_view p
-        ≡ attribute_step (canonical_name (name_class_view class.now))
-        (pattern_view content.value)) }
+        ≡ attribute_step (canonical_name (name_class_view class.now)) (pattern_view content)) }
 {
     if content.is_not_allowed() {
         Ok(Pattern::NotAllowed)
     } else {
-        Ok(Pattern::Attribute(canonical_class(alloc, class)?, content))
+        Ok(Pattern::Attribute(canonical_named(alloc, class, content)?))
     }
 }
 
@@ -82,21 +81,25 @@ pub fn attribute_over(
 pub fn element_over(
     alloc: Global,
     class: &NameClass,
-    content: Box<Pattern>,
+    content: Pattern,
 ) -> Result<Pattern, AllocError>
     ensures { IfOk result (λ p. pattern_view p
-        ≡ element (canonical_name (name_class_view class.now)) (pattern_view content.value)) }
+        ≡ element (canonical_name (name_class_view class.now)) (pattern_view content)) }
 {
-    Ok(Pattern::Element(canonical_class(alloc, class)?, content))
+    Ok(Pattern::Element(canonical_named(alloc, class, content)?))
 }
 
-/// The canonical form of the name class, in a box.
-fn canonical_class(alloc: Global, class: &NameClass) -> Result<Box<NameClass>, AllocError>
-    ensures { IfOk result (λ c. name_class_view c.value
-        ≡ canonical_name (name_class_view class.now)) }
+/// The canonical form of the name class with the content, in a box.
+fn canonical_named(
+    alloc: Global,
+    class: &NameClass,
+    content: Pattern,
+) -> Result<Box<Named>, AllocError>
+    ensures { IfOk result (λ n. named_view n.value
+        ≡ (canonical_name (name_class_view class.now), pattern_view content)) }
 {
     let class = class.canonical(alloc)?;
-    Ok(Box::new(alloc, class)?)
+    Ok(Box::new(alloc, Named { class, content })?)
 }
 
 /// A repetition; `notAllowed` (4.20), `empty` (4.21) and a repetition stay what they are.

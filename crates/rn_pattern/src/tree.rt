@@ -38,9 +38,20 @@ pub struct Data {
     pub params: Vec<(String, String)>,
 }
 
+/// What an element or an attribute is made of: its names, and the pattern of what stands in it.
+#[derive(Drop)]
+#[cycle(pattern)]
+pub struct Named {
+    /// The names that it may have.
+    pub class: NameClass,
+    /// The pattern of its content.
+    pub content: Pattern,
+}
+
 /// A pattern. The members of a list are shared, since one body may stand in many lists. What is large is in a box,
 /// since most patterns are references and lists.
 #[derive(Drop)]
+#[cycle(pattern)]
 pub enum Pattern {
     /// Matches nothing.
     NotAllowed,
@@ -56,10 +67,10 @@ pub enum Pattern {
     Datum(Box<Data>, Option<Box<Pattern>>),
     /// The pattern of a string's words (6.2.10).
     List(Box<Pattern>),
-    /// The names, and the pattern of the text (6.2.7).
-    Attribute(Box<NameClass>, Box<Pattern>),
-    /// The names, and the pattern of the attributes and the content (6.2.7).
-    Element(Box<NameClass>, Box<Pattern>),
+    /// Its content is the pattern of the text (6.2.7).
+    Attribute(Box<Named>),
+    /// Its content is the pattern of the attributes and the children (6.2.7).
+    Element(Box<Named>),
     /// One or more of the pattern (6.2.5).
     OneOrMore(Box<Pattern>),
     /// The members in their order (6.2.2).

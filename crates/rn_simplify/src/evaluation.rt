@@ -115,14 +115,13 @@ fn evaluate_pattern(
         Pattern::NotAllowed => FormKind::NotAllowed,
         Pattern::Empty => FormKind::Empty,
         Pattern::Ref(name) => settled.kind_of(likely, name.as_str()),
-        Pattern::List(content) | Pattern::Attribute(_, content) => {
-            evaluate_pattern(settled, likely, content).around()
-        }
+        Pattern::List(content) => evaluate_pattern(settled, likely, content).around(),
+        Pattern::Attribute(named) => evaluate_pattern(settled, likely, &named.content).around(),
         Pattern::OneOrMore(content) => evaluate_pattern(settled, likely, content),
         Pattern::Group(members) => evaluate_all(settled, likely, members),
         Pattern::Interleave(members) => evaluate_all(settled, likely, members),
         Pattern::Choice(members) => evaluate_any(settled, likely, members),
-        Pattern::Text | Pattern::Value(_) | Pattern::Datum(_, _) | Pattern::Element(_, _) =>
+        Pattern::Text | Pattern::Value(_) | Pattern::Datum(_, _) | Pattern::Element(_) =>
             FormKind::Other,
     }
 }

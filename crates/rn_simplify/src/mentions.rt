@@ -69,9 +69,9 @@ impl Mentions {
                     Some(except) => self.add_pattern(alloc, except),
                 }
             }
-            Pattern::Attribute(class, content) | Pattern::Element(class, content) => {
-                self.add_class(alloc, class)?;
-                self.add_pattern(alloc, content)
+            Pattern::Attribute(named) | Pattern::Element(named) => {
+                self.add_class(alloc, &named.class)?;
+                self.add_pattern(alloc, &named.content)
             }
             Pattern::List(content) | Pattern::OneOrMore(content) => {
                 self.add_pattern(alloc, content)

@@ -14,7 +14,7 @@ use crate::settled_definitions::SettledDefinitions;
 use crate::tree_forms::{form_of, is_not_allowed, is_single_class, list_form};
 use rn_pattern::boxes::new_shared;
 use rn_pattern::steps::{attribute_over, element_over, list_over, one_or_more_over};
-use rn_pattern::{Data, NameClass, Pattern, SmallString};
+use rn_pattern::{Data, Named, Pattern, SmallString};
 use std::alloc::{AllocError, Global};
 use std::mem;
 use std::rc::Rc;
@@ -44,13 +44,13 @@ pub(crate) fn owned_form(
             let content = boxed_form(alloc, settled, likely, content)?;
             Ok(list_over(content))
         }
-        Pattern::Attribute(class, content) => {
-            let content = boxed_form(alloc, settled, likely, content)?;
-            owned_attribute(alloc, class, content)
+        Pattern::Attribute(named) => {
+            let named = named_form(alloc, settled, likely, named)?;
+            owned_attribute(alloc, named)
         }
-        Pattern::Element(class, content) => {
-            let content = boxed_form(alloc, settled, likely, content)?;
-            owned_element(alloc, class, content)
+        Pattern::Element(named) => {
+            let named = named_form(alloc, settled, likely, named)?;
+            owned_element(alloc, named)
         }
         Pattern::OneOrMore(content) => {
             let content = boxed_form(alloc, settled, likely, content)?;
@@ -96,37 +96,51 @@ fn owned_datum(data: Box<Data>, except: Box<Pattern>) -> Pattern
     }
 }
 
-/// An attribute over its content, which is in canonical form. A name class that has no other in it stays in its box.
-fn owned_attribute(
-    alloc: Global,
-    class: Box<NameClass>,
-    content: Box<Pattern>,
-) -> Result<Pattern, AllocError>
+/// An attribute over its content, which is in canonical form. With a name class that has no other in it, it stays in
+/// its box.
+fn owned_attribute(alloc: Global, named: Box<Named>) -> Result<Pattern, AllocError>
     ensures { IfOk result (λ p. pattern_view p
-        ≡ attribute_step (canonical_name (name_class_view class.value))
-        (pattern_view content.value)) }
+        ≡ attribute_step (canonical_name (name_class_view named.value.class))
+        (pattern_view named.value.content)) }
 {
-    if is_single_class(&class) && !is_not_allowed(&content) {
-        Ok(Pattern::Attribute(class, content))
-    } else {
-        attribute_over(alloc, &class, content)
+    if is_single_class(&named.class) && !is_not_allowed(&named.content) {
+        return Ok(Pattern::Attribute(named));
     }
+    let Named { class, content } = Box::into_inner(named);
+    attribute_over(alloc, &class, content)
 }
 
-/// An element over its content, which is in canonical form. A name class that has no other in it stays in its box.
-fn owned_element(
-    alloc: Global,
-    class: Box<NameClass>,
-    content: Box<Pattern>,
-) -> Result<Pattern, AllocError>
+/// An element over its content, which is in canonical form. With a name class that has no other in it, it stays in its
+/// box.
+fn owned_element(alloc: Global, named: Box<Named>) -> Result<Pattern, AllocError>
     ensures { IfOk result (λ p. pattern_view p
-        ≡ element (canonical_name (name_class_view class.value)) (pattern_view content.value)) }
+        ≡ element (canonical_name (name_class_view named.value.class))
+        (pattern_view named.value.content)) }
 {
-    if is_single_class(&class) {
-        Ok(Pattern::Element(class, content))
-    } else {
-        element_over(alloc, &class, content)
+    if is_single_class(&named.class) {
+        return Ok(Pattern::Element(named));
     }
+    let Named { class, content } = Box::into_inner(named);
+    element_over(alloc, &class, content)
+}
+
+/// The names in a box over the canonical form of their content, in that box.
+#[cycle(owned_form)]
+fn named_form(
+    alloc: Global,
+    settled: &SettledDefinitions<'_>,
+    likely: &mut Likely<'_>,
+    named: Box<Named>,
+) -> Result<Box<Named>, AllocError>
+    ensures class { IfOk result (λ n. name_class_view n.value.class
+        ≡ name_class_view named.value.class) }
+    ensures content { IfOk result (λ n. pattern_view n.value.content
+        ≡ settled_form settled.now (pattern_view named.value.content)) }
+{
+    let mut named = named;
+    let content = mem::replace(&mut named.content, Pattern::Empty);
+    named.content = owned_form(alloc, settled, likely, content)?;
+    Ok(named)
 }
 
 /// The canonical form of the pattern in a box, in that box.

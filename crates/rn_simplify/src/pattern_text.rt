@@ -35,13 +35,13 @@ pub(crate) fn write_pattern(writer: &mut Writer, prefixes: &Prefixes, pattern: &
             writer.put("list");
             write_in_braces(writer, prefixes, content);
         }
-        Pattern::Attribute(class, content) => {
-            write_head(writer, prefixes, "attribute", class);
-            write_in_braces(writer, prefixes, content);
+        Pattern::Attribute(named) => {
+            write_head(writer, prefixes, "attribute", &named.class);
+            write_in_braces(writer, prefixes, &named.content);
         }
-        Pattern::Element(class, content) => {
-            write_head(writer, prefixes, "element", class);
-            write_in_braces(writer, prefixes, content);
+        Pattern::Element(named) => {
+            write_head(writer, prefixes, "element", &named.class);
+            write_in_braces(writer, prefixes, &named.content);
         }
         Pattern::OneOrMore(content) => {
             write_primary(writer, prefixes, content);

@@ -5,11 +5,11 @@ ghost use Rattle.std.specs.Rc.{rc_str_bytes};
 ghost use Rattle.rn_pattern.specs.Nodes.{node_members};
 ghost use Rattle.rn_pattern.specs.Store.{node_view, KnowsAll};
 ghost use Rattle.rn_pattern.specs.Tree.{Tree, value};
-ghost use Rattle.rn_pattern.specs.View.{excepted_view, name_class_view, parameters_view, pattern_view, shared_view};
+ghost use Rattle.rn_pattern.specs.View.{excepted_view, name_class_view, named_view, parameters_view, pattern_view, shared_view};
 ghost use Rattle.rn_simplify.specs.inside.NodeKinds.{datum_over, except_trees, has_members, is_leaf, node_content};
 
 use rn_pattern::boxes::{new_box, new_shared};
-use rn_pattern::{Data, NameClass, Node, Pattern, Patterns, Value};
+use rn_pattern::{Data, NameClass, Named, Node, Pattern, Patterns, Value};
 use std::alloc::{AllocError, Global};
 use std::rc::{Rc, RcStr};
 
@@ -36,7 +36,7 @@ pub(crate) fn rebuild<P: Patterns>(
         | Node::Attribute(_, content)
         | Node::Element(_, content)
         | Node::OneOrMore(content) => {
-            let content = rebuild_box(alloc, store, *content)?;
+            let content = rebuild(alloc, store, *content)?;
             pattern_over_content(alloc, node, content)
         }
         Node::Group(members) | Node::Interleave(members) | Node::Choice(members) => {
@@ -101,27 +101,29 @@ fn datum_pattern(
 fn pattern_over_content<Id>(
     alloc: Global,
     node: &Node<Id>,
-    content: Box<Pattern>,
+    content: Pattern,
 ) -> Result<Pattern, AllocError>
     requires { IsSome (node_content node.now) }
     ensures { (at : Id → Tree) → option_map at (node_content node.now)
-        ≡ Some (pattern_view content.value)
+        ≡ Some (pattern_view content)
         → IfOk result (λ p. pattern_view p ≡ node_view at node.now) }
 {
     match node {
-        Node::List(_) => Ok(Pattern::List(content)),
-        Node::Attribute(class, _) => Ok(Pattern::Attribute(boxed_class(alloc, class)?, content)),
-        Node::Element(class, _) => Ok(Pattern::Element(boxed_class(alloc, class)?, content)),
-        Node::OneOrMore(_) => Ok(Pattern::OneOrMore(content)),
+        Node::List(_) => Ok(Pattern::List(new_box(alloc, content)?)),
+        Node::Attribute(class, _) => Ok(Pattern::Attribute(boxed_named(alloc, class, content)?)),
+        Node::Element(class, _) => Ok(Pattern::Element(boxed_named(alloc, class, content)?)),
+        Node::OneOrMore(_) => Ok(Pattern::OneOrMore(new_box(alloc, content)?)),
         _ => unreachable!(),
     }
 }
 
-/// A copy of the name class, in its box.
-fn boxed_class(alloc: Global, class: &NameClass) -> Result<Box<NameClass>, AllocError>
-    ensures { IfOk result (λ c. name_class_view c.value ≡ name_class_view class.now) }
+/// A copy of the name class with the content, in a box.
+fn boxed_named(alloc: Global, class: &NameClass, content: Pattern) -> Result<Box<Named>, AllocError>
+    ensures { IfOk result (λ n. named_view n.value
+        ≡ (name_class_view class.now, pattern_view content)) }
 {
-    new_box(alloc, class.try_clone(alloc)?)
+    let class = class.try_clone(alloc)?;
+    new_box(alloc, Named { class, content })
 }
 
 /// The pattern of a node with a list of members, over the members' patterns.

@@ -40,10 +40,15 @@ fn add_pattern(
     match pattern {
         Pattern::Ref(name) => add_name(found, definitions, likely, name.as_str()),
         Pattern::Datum(_, Some(content)) => add_pattern(found, definitions, likely, content),
-        Pattern::List(content)
-        | Pattern::Attribute(_, content)
-        | Pattern::OneOrMore(content)
-        | Pattern::Element(_, content) => add_pattern(found, definitions, likely, content),
+        Pattern::List(content) | Pattern::OneOrMore(content) => add_pattern(
+            found,
+            definitions,
+            likely,
+            content,
+        ),
+        Pattern::Attribute(named) | Pattern::Element(named) => {
+            add_pattern(found, definitions, likely, &named.content)
+        }
         Pattern::Group(members) | Pattern::Interleave(members) | Pattern::Choice(members) => {
             add_patterns(found, definitions, likely, members)
         }

@@ -60,11 +60,12 @@ pub(crate) fn canonical_form<P: Patterns>(
             let except = canonical_form(alloc, store, settled, except)?;
             store.datum(&data.library, &data.type_name, &data.params, Some(except))
         }
-        Pattern::List(content)
-        | Pattern::Attribute(_, content)
-        | Pattern::Element(_, content)
-        | Pattern::OneOrMore(content) => {
+        Pattern::List(content) | Pattern::OneOrMore(content) => {
             let content = canonical_form(alloc, store, settled, content)?;
+            form_over_content(store, pattern, content)
+        }
+        Pattern::Attribute(named) | Pattern::Element(named) => {
+            let content = canonical_form(alloc, store, settled, &named.content)?;
             form_over_content(store, pattern, content)
         }
         Pattern::Group(members) => list_form(alloc, store, settled, ListKind::Group, members),
@@ -215,8 +216,8 @@ fn form_over_content<P: Patterns>(
 {
     match pattern {
         Pattern::List(_) => store.list(content),
-        Pattern::Attribute(class, _) => store.attribute(class, content),
-        Pattern::Element(class, _) => store.element(class, content),
+        Pattern::Attribute(named) => store.attribute(&named.class, content),
+        Pattern::Element(named) => store.element(&named.class, content),
         Pattern::OneOrMore(_) => store.one_or_more(content),
         _ => unreachable!(),
     }

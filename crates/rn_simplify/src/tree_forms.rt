@@ -58,12 +58,13 @@ pub(crate) fn form_of(
             let form = datum_over(alloc, data, Some(new_box(alloc, except)?))?;
             Ok(Some(form))
         }
-        Pattern::List(content)
-        | Pattern::Attribute(_, content)
-        | Pattern::Element(_, content)
-        | Pattern::OneOrMore(content) => {
+        Pattern::List(content) | Pattern::OneOrMore(content) => {
             let made = form_of(alloc, settled, likely, content)?;
             form_by_content(alloc, pattern, made, content)
+        }
+        Pattern::Attribute(named) | Pattern::Element(named) => {
+            let made = form_of(alloc, settled, likely, &named.content)?;
+            form_by_content(alloc, pattern, made, &named.content)
         }
         Pattern::Group(members) => {
             Ok(Some(list_form(alloc, settled, likely, ListKind::Group, members)?))
@@ -128,7 +129,7 @@ fn form_by_content(
         return Ok(None);
     }
     let content = form_or_copy(alloc, made, content)?;
-    let form = form_over_content(alloc, pattern, new_box(alloc, content)?)?;
+    let form = form_over_content(alloc, pattern, content)?;
     Ok(Some(form))
 }
 
@@ -141,8 +142,10 @@ fn stays_over_content(pattern: &Pattern) -> bool
 {
     match pattern {
         Pattern::List(content) => !is_not_allowed(content),
-        Pattern::Attribute(class, content) => is_single_class(class) && !is_not_allowed(content),
-        Pattern::Element(class, _) => is_single_class(class),
+        Pattern::Attribute(named) => {
+            is_single_class(&named.class) && !is_not_allowed(&named.content)
+        }
+        Pattern::Element(named) => is_single_class(&named.class),
         Pattern::OneOrMore(content) => may_repeat(content),
         _ => false,
     }
@@ -180,19 +183,19 @@ pub(crate) fn is_single_class(class: &NameClass) -> bool
 fn form_over_content(
     alloc: Global,
     pattern: &Pattern,
-    content: Box<Pattern>,
+    content: Pattern,
 ) -> Result<Pattern, AllocError>
     requires { IsSome (content_of (pattern_view pattern.now)) }
     ensures { (settled : Text → Tree)
         → option_map (form.canonical settled) (content_of (pattern_view pattern.now))
-        ≡ Some (pattern_view content.value)
+        ≡ Some (pattern_view content)
         → IfOk result (λ p. pattern_view p ≡ form.canonical settled (pattern_view pattern.now)) }
 {
     match pattern {
-        Pattern::List(_) => Ok(list_over(content)),
-        Pattern::Attribute(class, _) => attribute_over(alloc, class, content),
-        Pattern::Element(class, _) => element_over(alloc, class, content),
-        Pattern::OneOrMore(_) => Ok(one_or_more_over(content)),
+        Pattern::List(_) => Ok(list_over(new_box(alloc, content)?)),
+        Pattern::Attribute(named) => attribute_over(alloc, &named.class, content),
+        Pattern::Element(named) => element_over(alloc, &named.class, content),
+        Pattern::OneOrMore(_) => Ok(one_or_more_over(new_box(alloc, content)?)),
         _ => unreachable!(),
     }
 }

@@ -1,7 +1,7 @@
 // The order of name classes and of patterns.
 use crate::pattern_parts::token_value;
 use crate::samples::name;
-use rn_pattern::{Data, NameClass, Pattern, SmallString};
+use rn_pattern::{Data, NameClass, Named, Pattern, SmallString};
 use std::alloc::{AllocError, Global};
 use std::cmp::Ordering;
 use std::process::Abort;
@@ -63,14 +63,15 @@ fn datum(alloc: Global, except: Option<Box<Pattern>>) -> Result<Pattern, AllocEr
 
 /// An attribute `a` of a text.
 fn attribute(alloc: Global) -> Result<Pattern, AllocError> {
-    let class = Box::new(alloc, name(alloc, "", "a")?)?;
-    Ok(Pattern::Attribute(class, boxed(alloc, Pattern::Text)?))
+    let class = name(alloc, "", "a")?;
+    let content = Pattern::Text;
+    Ok(Pattern::Attribute(Box::new(alloc, Named { class, content })?))
 }
 
 /// An element of this name, with its content.
 fn element(alloc: Global, local: &str, content: Pattern) -> Result<Pattern, AllocError> {
-    let class = Box::new(alloc, name(alloc, "", local)?)?;
-    Ok(Pattern::Element(class, boxed(alloc, content)?))
+    let class = name(alloc, "", local)?;
+    Ok(Pattern::Element(Box::new(alloc, Named { class, content })?))
 }
 
 /// Patterns in their order, of the numbers 0 to 16.

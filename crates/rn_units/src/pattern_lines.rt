@@ -112,14 +112,14 @@ pub fn write_pattern(out: &mut String, pattern: &Pattern) -> Result<(), AllocErr
             write_within(out, "-", except, "")
         }
         Pattern::List(body) => write_within(out, "list{", body, "}"),
-        Pattern::Attribute(class, body) => {
+        Pattern::Attribute(named) => {
             out.push_str("@")?;
-            write_class(out, class)?;
-            write_within(out, "{", body, "}")
+            write_class(out, &named.class)?;
+            write_within(out, "{", &named.content, "}")
         }
-        Pattern::Element(class, body) => {
-            write_class(out, class)?;
-            write_within(out, "{", body, "}")
+        Pattern::Element(named) => {
+            write_class(out, &named.class)?;
+            write_within(out, "{", &named.content, "}")
         }
         Pattern::OneOrMore(body) => write_within(out, "{", body, "}+"),
         Pattern::Group(members) => write_members(out, members, ","),

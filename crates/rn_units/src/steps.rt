@@ -74,8 +74,8 @@ pub fn stepped(
         4 => value_of(alloc, &parts.value),
         5 => datum_over(alloc, &parts.data, Some(content)),
         6 => Ok(list_over(content)),
-        7 => attribute_over(alloc, &parts.class, content),
-        8 => element_over(alloc, &parts.class, content),
+        7 => attribute_over(alloc, &parts.class, Box::into_inner(content)),
+        8 => element_over(alloc, &parts.class, Box::into_inner(content)),
         9 => choice_over(alloc, members),
         10 => group_over(alloc, members),
         11 => interleave_over(alloc, members),
@@ -176,9 +176,9 @@ fn is_same<P: Patterns>(store: &P, id: P::Id, pattern: &Pattern) -> bool
         (Node::List(i), Pattern::List(p)) | (Node::OneOrMore(i), Pattern::OneOrMore(p)) => {
             is_same(store, *i, p)
         }
-        (Node::Attribute(c, i), Pattern::Attribute(d, p))
-        | (Node::Element(c, i), Pattern::Element(d, p)) => {
-            c.cmp(d).is_eq() && is_same(store, *i, p)
+        (Node::Attribute(c, i), Pattern::Attribute(named))
+        | (Node::Element(c, i), Pattern::Element(named)) => {
+            c.cmp(&named.class).is_eq() && is_same(store, *i, &named.content)
         }
         (Node::Group(is), Pattern::Group(ps))
         | (Node::Interleave(is), Pattern::Interleave(ps))

@@ -48,11 +48,10 @@ fn draw_set(rt: &(impl Abort + AllocGlobal), draw: &mut Draw) -> String {
 fn refers(pattern: &Pattern, name: &str, in_elements: bool) -> bool {
     match pattern {
         Pattern::Ref(other) => other.as_str() == name,
-        Pattern::Element(_, content) => in_elements && refers(content, name, in_elements),
-        Pattern::List(content)
-        | Pattern::Attribute(_, content)
-        | Pattern::OneOrMore(content)
-        | Pattern::Datum(_, Some(content)) => refers(content, name, in_elements),
+        Pattern::Element(named) => in_elements && refers(&named.content, name, in_elements),
+        Pattern::Attribute(named) => refers(&named.content, name, in_elements),
+        Pattern::List(content) | Pattern::OneOrMore(content) | Pattern::Datum(_, Some(content)) =>
+            refers(content, name, in_elements),
         Pattern::Group(members) | Pattern::Interleave(members) | Pattern::Choice(members) => {
             any_refers(members, name, in_elements)
         }
