@@ -163,7 +163,7 @@ def show(found, count):
             new, twin, old = got["new", "hostile"], got["new", "twin"], got.get(("old", "hostile"))
             has_twin = shape in TWINNED
             row(shape.__name__, f"{size / 1e6:.1f}", seconds(old) + ended(old) if old else "", seconds(new), seconds(twin) if has_twin else "",
-                f"{new.seconds / twin.seconds:.2f}" if has_twin else "", megabytes(new), f"{new.peak / size:.1f}",
+                f"{new.times(twin):.2f}" if has_twin else "", megabytes(new), f"{new.peak / size:.1f}",
                 f"{twin.peak / size:.1f}" if has_twin else "", ended(new))
 
 

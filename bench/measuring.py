@@ -2,7 +2,7 @@
 
 With BENCH_CLOCK=processor in the environment, seconds are those of the processor, for a machine that is busy.
 In each round every command runs once, one after the other, so that a machine that is busier for a while is so for all of them. What counts is the
-median of the rounds. Peaks are those of the commands alone where GNU time is there (/usr/bin/time), and else hold what this process has itself.
+median of the rounds: of a figure, or of the ratios of two figures of one round. Peaks are those of the commands alone where GNU time is there (/usr/bin/time), and else hold what this process has itself.
 """
 import dataclasses
 import os
@@ -49,20 +49,40 @@ def run(words, given=None, memory=None):
     return Run(processor if ON_PROCESSOR else seconds, kilobytes * 1024, child.returncode, said.split("\n")[0])
 
 
-def median(runs):
-    """The median of each figure; the status is that of the first run."""
-    figures = (statistics.median(getattr(it, name) for it in runs) for name in ("seconds", "peak"))
-    return Run(*figures, runs[0].status, runs[0].said)
+@dataclasses.dataclass(frozen=True)
+class Runs:
+    """The runs of a command, one for each round, or one alone where it takes long."""
+    each: tuple
+
+    @property
+    def seconds(self):
+        return statistics.median(it.seconds for it in self.each)
+
+    @property
+    def peak(self):
+        return statistics.median(it.peak for it in self.each)
+
+    @property
+    def status(self):
+        return self.each[0].status
+
+    @property
+    def said(self):
+        return self.each[0].said
+
+    def times(self, other):
+        """How many times the seconds of another command's runs these take: the median of the rounds' ratios."""
+        return statistics.median(it.seconds / that.seconds for it, that in zip(self.each, other.each))
 
 
 def rounds(commands, count=ROUNDS):
-    """The medians of commands, each of them a list of words, a file for its standard input or None, and a limit of memory or None, by their names."""
+    """The runs of commands, each of them a list of words, a file for its standard input or None, and a limit of memory or None, by their names."""
     runs = {name: [] for name in commands}
     for _ in range(count):
         for name, words in commands.items():
             if not runs[name] or runs[name][0].seconds < LONG:
                 runs[name].append(run(*words))
-    return {name: median(found) for name, found in runs.items()}
+    return {name: Runs(tuple(found)) for name, found in runs.items()}
 
 
 def seconds(it):

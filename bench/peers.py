@@ -99,8 +99,8 @@ def show_closures(words, found, room):
         commands |= {"trang": (["trang", str(driver), f"{room}/made.rng"],), "sha256sum": (["sha256sum"], bundle)}
         got = measuring.rounds(commands, words.rounds)
         new, jing = got["print"], got["jing"]
-        row(name, count, size // 1000, seconds(got["old"]) if words.old else "", seconds(new), f"{new.seconds / got['sha256sum'].seconds:.1f}",
-            seconds(jing), seconds(got["trang"]) + ended(got["trang"]), f"{jing.seconds / new.seconds:.1f}", f"{jing.seconds / got['flat'].seconds:.1f}",
+        row(name, count, size // 1000, seconds(got["old"]) if words.old else "", seconds(new), f"{new.times(got['sha256sum']):.1f}",
+            seconds(jing), seconds(got["trang"]) + ended(got["trang"]), f"{jing.times(new):.1f}", f"{jing.times(got['flat']):.1f}",
             megabytes(new), megabytes(jing), f"{new.peak / jing.peak:.2f}", ended(new) + ended(jing))
         rows.append((name, count, size, new, got["flat"]))
     return rows
@@ -119,7 +119,7 @@ def generated(words, room):
 def show_flat(rows):
     table("set:", "modules", "KB", "print, s", "rnc-flat, s", "rnc-flat / print", "print, MB", "rnc-flat, MB", "memory, rnc-flat / print", "status:")
     for name, count, size, printed, flat in rows:
-        row(name, count, size // 1000, seconds(printed), seconds(flat), f"{flat.seconds / printed.seconds:.2f}",
+        row(name, count, size // 1000, seconds(printed), seconds(flat), f"{flat.times(printed):.2f}",
             megabytes(printed), megabytes(flat), f"{flat.peak / printed.peak:.2f}", ended(printed) + ended(flat))
 
 
