@@ -1,11 +1,12 @@
 // How malloc takes memory from the system.
 use std::alloc::Global;
 
-/// How many bytes are asked for and given back: little less than the most that malloc may be taught. The tokens of a
-/// module of two megabytes are kept for what is made next, while those of a larger one are given back.
-const LARGE: usize = 30_000_000;
+/// How many bytes are asked for and given back: with the page that malloc adds, just less than the 32 MiB that it may be
+/// taught at most. The tokens of a module of 2.5 megabytes are kept for what is made next, while those of a larger one are
+/// given back.
+const LARGE: usize = 33_500_000;
 
-/// Has malloc keep the memory of lists of up to 30 megabytes that are given back; a program that makes a schema begins
+/// Has malloc keep the memory of lists of up to 33 megabytes that are given back; a program that makes a schema begins
 /// with it.
 ///
 /// glibc's malloc takes a large list straight from the system and gives it back to it, until one as large was given
