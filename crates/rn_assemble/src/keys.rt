@@ -4,11 +4,16 @@ ghost use Rattle.std.specs.List.Sorted.{IsStrictlySortedBy, IsStrictlySortedBy-p
 ghost use Rattle.rn_text.specs.Texts.{text_cmp};
 ghost use Rattle.rn_pattern.specs.Canonical.{sorted_once};
 ghost use Rattle.rn_syntax.specs.View.{item_view, items_view};
-ghost use Rattle.rn_assemble.specs.inside.Keyed.{item_defines, defined_names, defines, AreNames, IsFound, IsNameNumber, key_at};
+ghost use Rattle.rn_assemble.specs.inside.Keyed.{item_defines, defined_names, defines, name_at, AreNames, HaveNames, IsFound, IsNameNumber, key_at};
 ghost use Rattle.rn_assemble.specs.Refused.{key_view};
+
+mod heads;
+mod next_key;
 
 use crate::named_modules::NamedModule;
 use crate::refusal::Key;
+use heads::Heads;
+pub(crate) use next_key::NextKey;
 use rn_syntax::Item;
 use std::alloc::{AllocError, Global};
 use std::cmp::Ordering;
@@ -24,17 +29,26 @@ struct DefinedName<'s> {
     place: usize,
 }
 
+/// The number of a key, and the name of that number; none of start.
+#[derive(Clone, Copy)]
+pub(crate) struct NumberedName<'s> {
+    name: &'s str,
+    number: usize,
+}
+
 /// The keys of the components of all modules. Start is number 0, and the names follow in the order of their bytes.
 #[derive(Drop)]
 pub(crate) struct Keys<'s> {
     /// The names, in the order of their bytes, each once.
     names: Vec<DefinedName<'s>>,
-    /// For each component by its place among those of all modules, the number of its key. No answer rests on them, so no
-    /// clause speaks of them: a wrong one costs time.
-    numbers: Vec<usize>,
+    /// For each component by its place among those of all modules, the number of its key, with the name, so that it is
+    /// compared without a look at the names. That the number is that of the component's key no clause says: a wrong one
+    /// costs time.
+    placed: Vec<NumberedName<'s>>,
     /// The heads of the names.
     heads: Heads,
     ghost in_order: { IsStrictlySortedBy text_cmp (defined_names names.items) } by { IsStrictlySortedBy-prop _ _ },
+    ghost numbered: { HaveNames (defined_names names.items) placed.items },
 }
 
 impl<'s> Keys<'s> {
@@ -51,10 +65,11 @@ impl<'s> Keys<'s> {
         }
         let numbers = number_names(alloc, &mut names, components)?;
         names.shrink_to_fit();
+        let placed = named_numbers(alloc, names.as_slice(), numbers)?;
         let heads = Heads::of(alloc, names.as_slice())?;
         Ok(Keys {
             names,
-            numbers,
+            placed,
             heads,
         })
     }
@@ -72,46 +87,93 @@ impl<'s> Keys<'s> {
         ensures { Contains (names_of self.now) name.now
             → IsNameNumber (names_of self.now) name.now result }
     {
-        let likely = self.number_at(place);
-        if self.is_named(likely, name) {
-            return likely;
+        match self.find_at(place, name) {
+            Some(number) => number,
+            None => self.find(name).unwrap_or(START),
         }
-        self.find(name).unwrap_or(START)
     }
 
     /// The number of a name, if a module defines it. The key of the next component is tried first, then that of the one
-    /// that goes on in the same step.
+    /// that goes on in the same step, then the first one whose name has the same head.
     pub fn find_next(&self, name: &str, next: &mut NextKey) -> Option<usize>
         ensures within { IfSome result (λ key. (0 < key)
             × (key < length (names_of self.now) + 1)) }
         ensures found { IsFound (names_of self.now) name.now result }
     {
-        let behind = self.number_at(next.place);
-        let key = match self.guess(name, behind, next) {
-            Some(guessed) => guessed,
+        if let Some(key) = self.find_behind(name, next) {
+            return Some(key);
+        }
+        if let Some(key) = self.find_in_step(name, next) {
+            return Some(key);
+        }
+        let key = match self.find_by_head(name) {
+            Some(key) => key,
             None => self.find(name)?,
         };
-        next.note(self.place(key), key == behind);
+        next.note(self.place(key), false);
         Some(key)
     }
 
-    /// The key that is behind the one found last, if that was right before, or else that of the component that goes on
-    /// in the same step, or else the first one whose name has the same head; none where none of them has the name.
-    fn guess(&self, name: &str, behind: usize, next: &NextKey) -> Option<usize>
+    /// The key of the component behind the one found last, if that was right before and it has the name.
+    #[inline(always)]
+    fn find_behind(&self, name: &str, next: &mut NextKey) -> Option<usize>
         ensures { IfSome result (IsNameNumber (names_of self.now) name.now) }
     {
-        if next.was_right && self.is_named(behind, name) {
-            return Some(behind);
+        if !next.was_right {
+            return None;
         }
-        let in_step = self.number_at(next.in_step());
-        if self.is_named(in_step, name) {
-            return Some(in_step);
+        let place = next.place;
+        let key = self.find_at(place, name)?;
+        next.note(place, true);
+        Some(key)
+    }
+
+    /// The key of the component that goes on in the same step, if it has the name. The place that was looked at is noted,
+    /// so that the next one is known before this name is compared.
+    #[inline(always)]
+    fn find_in_step(&self, name: &str, next: &mut NextKey) -> Option<usize>
+        ensures { IfSome result (IsNameNumber (names_of self.now) name.now) }
+    {
+        let place = next.in_step();
+        let key = self.find_at(place, name)?;
+        next.note(place, place == next.place);
+        Some(key)
+    }
+
+    /// The first key whose name has the same head, if it has the name.
+    #[inline(always)]
+    fn find_by_head(&self, name: &str) -> Option<usize>
+        ensures { IfSome result (IsNameNumber (names_of self.now) name.now) }
+    {
+        let key = self.heads.first_at(name).saturating_add(1);
+        if self.is_named(key, name) {
+            Some(key)
+        } else {
+            None
         }
-        let by_head = self.heads.first_at(name).saturating_add(1);
-        if self.is_named(by_head, name) {
-            return Some(by_head);
+    }
+
+    /// The key of the component at a place, if it has the name.
+    #[inline(always)]
+    fn find_at(&self, place: usize, name: &str) -> Option<usize>
+        ensures { IfSome result (IsNameNumber (names_of self.now) name.now) }
+    {
+        if place >= self.placed.len() {
+            return None;
+        }
+        let NumberedName { name: own, number } = self.placed[place];
+        if own == name && self.is_of_a_name(number) {
+            return Some(number);
         }
         None
+    }
+
+    /// Whether a name has the number.
+    #[inline(always)]
+    fn is_of_a_name(&self, number: usize) -> bool
+        ensures { IsTrue result → (0 < number) × (number < length (names_of self.now) + 1) }
+    {
+        START < number && number < self.len()
     }
 
     /// Whether the number is that of the name.
@@ -119,7 +181,7 @@ impl<'s> Keys<'s> {
     fn is_named(&self, number: usize, name: &str) -> bool
         ensures { IsTrue result → IsNameNumber (names_of self.now) name.now number }
     {
-        START < number && number < self.len() && self.name(number) == name
+        self.is_of_a_name(number) && self.name(number) == name
     }
 
     /// The number of a name, if a module defines it.
@@ -137,18 +199,13 @@ impl<'s> Keys<'s> {
         }
     }
 
-    /// The number of the key of the component at a place; that of start where there is none.
-    fn number_at(&self, place: usize) -> usize {
-        self.numbers.get(place).copied().unwrap_or(START)
-    }
-
     /// The place of the first item that defines the name of that number; behind all components where no name has the
     /// number.
     fn place(&self, number: usize) -> usize {
         let named = number.checked_sub(1).and_then(|at| self.names.get(at));
         match named {
             Some(named) => named.place,
-            None => self.numbers.len(),
+            None => self.placed.len(),
         }
     }
 
@@ -157,10 +214,7 @@ impl<'s> Keys<'s> {
         ensures { 0 < number → number < length (names_of self.now) + 1
             → result.now ≡ slice_index_or (names_of self.now) (number - 1) [] }
     {
-        match number.checked_sub(1) {
-            Some(at) if at < self.names.len() => self.names[at].name,
-            _ => "",
-        }
+        name_of(&self.names, number)
     }
 
     /// The key of that number.
@@ -172,115 +226,6 @@ impl<'s> Keys<'s> {
             return Ok(Key::Start);
         }
         Ok(Key::Define(String::from_str(alloc, self.name(number))?))
-    }
-}
-
-/// The heads of names: of each, the bytes behind those that all names begin with, eight of them, as a number. Heads are in
-/// the order of the names, and are compared without a look at the text. No answer rests on them.
-#[derive(Drop)]
-struct Heads {
-    /// How many bytes all names begin with.
-    common: usize,
-    heads: Vec<u64>,
-}
-
-impl Heads {
-    /// The heads of names in the order of their bytes.
-    fn of(alloc: Global, names: &[DefinedName<'_>]) -> Result<Heads, AllocError> {
-        let common = match (names.first(), names.last()) {
-            (Some(first), Some(last)) => common_bytes(first.name, last.name),
-            _ => 0,
-        };
-        let mut heads = Vec::with_capacity(alloc, names.len())?;
-        for one in names {
-            heads.push(head(one.name, common))?;
-        }
-        Ok(Heads { common, heads })
-    }
-
-    /// The place of the first name whose head is not before that of this name.
-    fn first_at(&self, name: &str) -> usize {
-        let wanted = head(name, self.common);
-        self.heads.partition_point(|head| *head < wanted)
-    }
-}
-
-/// How many bytes both names begin with.
-fn common_bytes(a: &str, b: &str) -> usize {
-    let pairs = a.as_bytes().iter().zip(b.as_bytes().iter());
-    pairs.take_while(|(x, y)| x == y).count()
-}
-
-/// Eight bytes of the name behind the first ones, as a number; zeros stand for those that there are not.
-fn head(name: &str, common: usize) -> u64 {
-    let mut bytes = [0; 8];
-    let behind = name.as_bytes().get(common..).unwrap_or(&[]);
-    for (to, from) in bytes.iter_mut().zip(behind.iter()) {
-        *to = *from;
-    }
-    u64::from_be_bytes(bytes)
-}
-
-/// How many references of a key have a step of their own.
-const STEPS: usize = 4;
-
-/// The place of the first component of the key that the reference with an index had last, and how far it was from the
-/// one before.
-#[derive(Clone, Copy, Default)]
-struct Step {
-    place: usize,
-    step: usize,
-}
-
-/// Which key is looked for first. No answer rests on it.
-#[derive(Drop)]
-pub(crate) struct NextKey {
-    /// The place of the component behind the one whose name was found last.
-    place: usize,
-    /// Whether the key of that component was the right one when a name was looked up last.
-    was_right: bool,
-    /// The index of the next reference of its key.
-    index: usize,
-    /// For each of the first references of a key, by its index, the place found last and how far that was from the one
-    /// before.
-    steps: [Step; STEPS],
-}
-
-impl NextKey {
-    /// The key of the first component.
-    pub fn new() -> NextKey {
-        NextKey {
-            place: 0,
-            was_right: true,
-            index: 0,
-            steps: [Step::default(); STEPS],
-        }
-    }
-
-    /// The next reference is the first one of its key.
-    pub fn begin(&mut self) {
-        self.index = 0;
-    }
-
-    /// The place of the component that goes on in the same step; behind all components where there is none.
-    fn in_step(&self) -> usize {
-        match self.steps.get(self.index) {
-            Some(last) => last.place.wrapping_add(last.step),
-            None => usize::MAX,
-        }
-    }
-
-    /// Notes the place of the first component of the next reference's key, and whether that key was the one behind.
-    fn note(&mut self, place: usize, was_right: bool) {
-        self.was_right = was_right;
-        self.place = place.saturating_add(1);
-        if let Some(last) = self.steps.get_mut(self.index) {
-            *last = Step {
-                place,
-                step: place.wrapping_sub(last.place),
-            };
-        }
-        self.index = self.index.saturating_add(1);
     }
 }
 
@@ -373,4 +318,30 @@ fn numbers_by_name(
         }
     }
     Ok(numbers)
+}
+
+/// The numbers of keys, each with its name.
+fn named_numbers<'s>(
+    alloc: Global,
+    names: &[DefinedName<'s>],
+    numbers: Vec<usize>,
+) -> Result<Vec<NumberedName<'s>>, AllocError>
+    ensures { IfOk result (λ placed. HaveNames (defined_names names.now) placed.items) }
+{
+    let mut placed = Vec::with_capacity(alloc, numbers.len())?;
+    for number in numbers {
+        let name = name_of(names, number);
+        placed.push(NumberedName { name, number })?;
+    }
+    Ok(placed)
+}
+
+/// The name of that number; none of start.
+fn name_of<'s>(names: &[DefinedName<'s>], number: usize) -> &'s str
+    ensures { result.now ≡ name_at (defined_names names.now) number }
+{
+    match number.checked_sub(1) {
+        Some(at) if at < names.len() => names[at].name,
+        _ => "",
+    }
 }

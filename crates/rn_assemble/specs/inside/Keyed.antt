@@ -6,6 +6,7 @@ use Rattle.rn_text.specs.Texts.{Text, text_cmp}
 use Rattle.rn_syntax.specs.Tree as t
 use Rattle.rn_syntax.specs.Tree.{Item, Items}
 use Rattle.rn_assemble.specs.declared.keys.DefinedName.{DefinedName}
+use Rattle.rn_assemble.specs.declared.keys.NumberedName.{NumberedName}
 use Rattle.rn_assemble.specs.Components.{Key, start_key, name_key, NamedModule}
 
 -- the names that items define, those of includes' own items among them
@@ -37,6 +38,15 @@ AreAmong names xs = AllByRecursion (Contains names) xs
 abbrev pub key_at : List Text → ℕ → Key
 key_at names zero = start_key
 key_at names (suc n) = name_key (slice_index_or names n [])
+
+-- the name of that number; none of the start, and none where there are fewer
+abbrev pub name_at : List Text → ℕ → Text
+name_at names zero = []
+name_at names (suc n) = slice_index_or names n []
+
+-- each entry has the name of its number
+abbrev pub HaveNames : List Text → List NumberedName → Type 0
+HaveNames names ps = map (λ (p : NumberedName). p.name.now) ps ≡ map (λ (p : NumberedName). name_at names p.number) ps
 
 -- the number is that of the name's key
 pub record IsNameNumber (names : List Text) (x : Text) (n : ℕ) : Type 0 where

@@ -1,0 +1,13 @@
+use Rattle.std.proofs.Common.{◌≡◌, ◌+◌, sym, ap, ◌∙◌, [], slice_index_or, arith, add-one}
+use Rattle.std.proofs.lemmas.List.{get_or-map}
+use Rattle.rn_assemble.specs.declared.keys.DefinedName.{DefinedName}
+use Rattle.rn_assemble.specs.inside.Keyed.{defined_names, name_at}
+use Rattle.rn_assemble.proofs.keys.name_of.Goals as goal
+
+pub returns-in-Some : goal.returns-in-Some
+returns-in-Some c =
+    let xs = c.args.names.now in
+    let at = c.in-Some.at in
+    let behind : c.args.number ≡ at + 1 = omega (arith, c.in-Some.ensures) in
+    let here : name_at (defined_names xs) (at + 1) ≡ slice_index_or (defined_names xs) at [] = rw add-one (λ i. slice_index_or (defined_names xs) at []) in
+    sym (ap (name_at (defined_names xs)) behind ∙ here ∙ get_or-map (λ (d : DefinedName). d.name.now) xs at _ [] (omega (arith, c.if-at-names.true)))
