@@ -31,7 +31,7 @@ struct DefinedName<'s> {
 
 /// The number of a key, and the name of that number; none of start.
 #[derive(Clone, Copy)]
-pub(crate) struct NumberedName<'s> {
+struct NumberedName<'s> {
     name: &'s str,
     number: usize,
 }

@@ -5,12 +5,12 @@ use Rattle.std.specs.declared.alloc.Global.{Global}
 use Rattle.std.specs.declared.rc.Rc.{Rc}
 use Rattle.std.specs.Rc.{rc_str_bytes}
 use Rattle.rn_pattern.specs.Tree as tree
-use Rattle.rn_pattern.specs.Tree.{Parameters, Tree, Trees, no_trees, more_trees, trees_of}
+use Rattle.rn_pattern.specs.Tree.{Parameters, NameTree, Tree, Trees, no_trees, more_trees, trees_of}
 use Rattle.rn_text.specs.Texts.{Text}
 use Rattle.rn_pattern.specs.Order.{rank, trees_cmp}
-use Rattle.rn_pattern.specs.View.{pattern_step, pattern_view, shared_view, parameters_view, excepted_view, shared_trees}
+use Rattle.rn_pattern.specs.View.{named_step, pattern_step, pattern_view, shared_view, parameters_view, excepted_view, shared_trees}
 use Rattle.rn_pattern.specs.declared.tree.Data.{Data}
-use Rattle.rn_pattern.specs.declared.tree.NameClass.{NameClass}
+use Rattle.rn_pattern.specs.declared.tree.Named.{Named, fold-Named}
 use Rattle.rn_pattern.specs.declared.tree.Pattern.{Pattern, fold-roll-Pattern, map-Pattern}
 use Rattle.rn_pattern.specs.declared.tree.Pattern.TheOpen.{Pattern-F}
 use Rattle.rn_pattern.specs.declared.tree.Pattern.TheVariants as variant
@@ -22,21 +22,21 @@ shared_by [] = refl
 shared_by (p ∷ ps) = ap (λ t. shared_view p ∷ t) (shared_by ps)
 
 pub group_seen : (v : Vec (Rc Pattern Global) Global) → pattern_view (pattern.Group v) ≡ tree.group (shared_trees v.items)
-group_seen v = ap pattern_view (sym (variant.rolls-Group v)) ∙ fold-roll-Pattern Tree pattern_step (Pattern-F.Group v) ∙ ap (λ ts. tree.group (trees_of ts)) (shared_by v.items)
+group_seen v = ap pattern_view (sym (variant.rolls-Group v)) ∙ fold-roll-Pattern Tree (NameTree × Tree) pattern_step named_step (Pattern-F.Group v) ∙ ap (λ ts. tree.group (trees_of ts)) (shared_by v.items)
 
 pub interleave_seen : (v : Vec (Rc Pattern Global) Global) → pattern_view (pattern.Interleave v) ≡ tree.interleave (shared_trees v.items)
-interleave_seen v = ap pattern_view (sym (variant.rolls-Interleave v)) ∙ fold-roll-Pattern Tree pattern_step (Pattern-F.Interleave v) ∙ ap (λ ts. tree.interleave (trees_of ts)) (shared_by v.items)
+interleave_seen v = ap pattern_view (sym (variant.rolls-Interleave v)) ∙ fold-roll-Pattern Tree (NameTree × Tree) pattern_step named_step (Pattern-F.Interleave v) ∙ ap (λ ts. tree.interleave (trees_of ts)) (shared_by v.items)
 
 pub choice_seen : (v : Vec (Rc Pattern Global) Global) → pattern_view (pattern.Choice v) ≡ tree.choice (shared_trees v.items)
-choice_seen v = ap pattern_view (sym (variant.rolls-Choice v)) ∙ fold-roll-Pattern Tree pattern_step (Pattern-F.Choice v) ∙ ap (λ ts. tree.choice (trees_of ts)) (shared_by v.items)
+choice_seen v = ap pattern_view (sym (variant.rolls-Choice v)) ∙ fold-roll-Pattern Tree (NameTree × Tree) pattern_step named_step (Pattern-F.Choice v) ∙ ap (λ ts. tree.choice (trees_of ts)) (shared_by v.items)
 
 abbrev pub datum_of : Text → Text → Parameters → Trees → Tree
 datum_of k x s no_trees = tree.datum k x s
 datum_of k x s (more_trees p ps) = tree.datum_but k x s p
 
 pub datum_seen : (d : Box Data Global) (p : Option (Box Pattern Global)) → pattern_view (pattern.Datum d p) ≡ datum_of (rc_str_bytes d.value.library) (string_bytes d.value.type_name) (parameters_view d.value.params.items) (excepted_view p)
-datum_seen d None = ap pattern_view (sym (variant.rolls-Datum d None)) ∙ fold-roll-Pattern Tree pattern_step (Pattern-F.Datum d None)
-datum_seen d (Some p) = ap pattern_view (sym (variant.rolls-Datum d (Some p))) ∙ fold-roll-Pattern Tree pattern_step (Pattern-F.Datum d (Some p))
+datum_seen d None = ap pattern_view (sym (variant.rolls-Datum d None)) ∙ fold-roll-Pattern Tree (NameTree × Tree) pattern_step named_step (Pattern-F.Datum d None)
+datum_seen d (Some p) = ap pattern_view (sym (variant.rolls-Datum d (Some p))) ∙ fold-roll-Pattern Tree (NameTree × Tree) pattern_step named_step (Pattern-F.Datum d (Some p))
 
 datum_members : (k x : Text) (s : Parameters) (p : Option (Box Pattern Global)) → members_in (datum_of k x s (excepted_view p)) ≡ excepted_view p
 datum_members k x s None = refl
@@ -45,10 +45,14 @@ datum_members k x s (Some p) = refl
 pub datum_excepted : (d : Box Data Global) (p : Option (Box Pattern Global)) → members_in (pattern_view (pattern.Datum d p)) ≡ excepted_view p
 datum_excepted d p = ap members_in (datum_seen d p) ∙ datum_members (rc_str_bytes d.value.library) (string_bytes d.value.type_name) (parameters_view d.value.params.items) p
 
-by_view : (x : Pattern-F Pattern) → rank (pattern_view (pattern.roll-Pattern x)) ≡ rank (pattern_step (map-Pattern Pattern Tree pattern_view x))
-by_view x = ap rank (fold-roll-Pattern Tree pattern_step x)
+-- the tree of one layer
+abbrev layer_view : Pattern-F Pattern Named → Tree
+layer_view x = pattern_step (map-Pattern Pattern Named Tree (NameTree × Tree) pattern_view (fold-Named Tree (NameTree × Tree) pattern_step named_step) x)
 
-layer_datum : (x : Pattern-F Pattern) → ((a : Box Data Global) (e : Option (Box Pattern Global)) → x ≡ Pattern-F.Datum a e → ⊥) → ¬ (rank (pattern_step (map-Pattern Pattern Tree pattern_view x)) ≡ 5)
+by_view : (x : Pattern-F Pattern Named) → rank (pattern_view (pattern.roll-Pattern x)) ≡ rank (layer_view x)
+by_view x = ap rank (fold-roll-Pattern Tree (NameTree × Tree) pattern_step named_step x)
+
+layer_datum : (x : Pattern-F Pattern Named) → ((a : Box Data Global) (e : Option (Box Pattern Global)) → x ≡ Pattern-F.Datum a e → ⊥) → ¬ (rank (layer_view x) ≡ 5)
 layer_datum (Pattern-F.Datum a None) h f = h a None refl
 layer_datum (Pattern-F.Datum a (Some e)) h f = h a (Some e) refl
 layer_datum x h f = absurd (omega (arith, f))
@@ -59,7 +63,7 @@ not_datum q h f =
     let whole : pattern.roll-Pattern x ≡ q = pattern.roll-out-Pattern q in
     layer_datum x (λ a e k. h a e (sym whole ∙ ap pattern.roll-Pattern k ∙ variant.rolls-Datum a e)) (sym (by_view x) ∙ ap (λ n. rank (pattern_view n)) whole ∙ f)
 
-layer_list : (x : Pattern-F Pattern) → ((a : Box Pattern Global) → x ≡ Pattern-F.List a → ⊥) → ¬ (rank (pattern_step (map-Pattern Pattern Tree pattern_view x)) ≡ 6)
+layer_list : (x : Pattern-F Pattern Named) → ((a : Box Pattern Global) → x ≡ Pattern-F.List a → ⊥) → ¬ (rank (layer_view x) ≡ 6)
 layer_list (Pattern-F.List a) h f = h a refl
 layer_list (Pattern-F.Datum d None) h f = absurd (omega (arith, f))
 layer_list (Pattern-F.Datum d (Some q)) h f = absurd (omega (arith, f))
@@ -71,31 +75,31 @@ not_list q h f =
     let whole : pattern.roll-Pattern x ≡ q = pattern.roll-out-Pattern q in
     layer_list x (λ a k. h a (sym whole ∙ ap pattern.roll-Pattern k ∙ variant.rolls-List a)) (sym (by_view x) ∙ ap (λ n. rank (pattern_view n)) whole ∙ f)
 
-layer_attribute : (x : Pattern-F Pattern) → ((a : Box NameClass Global) (b : Box Pattern Global) → x ≡ Pattern-F.Attribute a b → ⊥) → ¬ (rank (pattern_step (map-Pattern Pattern Tree pattern_view x)) ≡ 7)
-layer_attribute (Pattern-F.Attribute a b) h f = h a b refl
+layer_attribute : (x : Pattern-F Pattern Named) → ((a : Box Named Global) → x ≡ Pattern-F.Attribute a → ⊥) → ¬ (rank (layer_view x) ≡ 7)
+layer_attribute (Pattern-F.Attribute a) h f = h a refl
 layer_attribute (Pattern-F.Datum d None) h f = absurd (omega (arith, f))
 layer_attribute (Pattern-F.Datum d (Some q)) h f = absurd (omega (arith, f))
 layer_attribute x h f = absurd (omega (arith, f))
 
-pub not_attribute : (q : Pattern) → ((a : Box NameClass Global) (b : Box Pattern Global) → q ≡ variant.Attribute a b → ⊥) → ¬ (rank (pattern_view q) ≡ 7)
+pub not_attribute : (q : Pattern) → ((a : Box Named Global) → q ≡ variant.Attribute a → ⊥) → ¬ (rank (pattern_view q) ≡ 7)
 not_attribute q h f =
     let x = pattern.out-Pattern q in
     let whole : pattern.roll-Pattern x ≡ q = pattern.roll-out-Pattern q in
-    layer_attribute x (λ a b k. h a b (sym whole ∙ ap pattern.roll-Pattern k ∙ variant.rolls-Attribute a b)) (sym (by_view x) ∙ ap (λ n. rank (pattern_view n)) whole ∙ f)
+    layer_attribute x (λ a k. h a (sym whole ∙ ap pattern.roll-Pattern k ∙ variant.rolls-Attribute a)) (sym (by_view x) ∙ ap (λ n. rank (pattern_view n)) whole ∙ f)
 
-layer_element : (x : Pattern-F Pattern) → ((a : Box NameClass Global) (b : Box Pattern Global) → x ≡ Pattern-F.Element a b → ⊥) → ¬ (rank (pattern_step (map-Pattern Pattern Tree pattern_view x)) ≡ 8)
-layer_element (Pattern-F.Element a b) h f = h a b refl
+layer_element : (x : Pattern-F Pattern Named) → ((a : Box Named Global) → x ≡ Pattern-F.Element a → ⊥) → ¬ (rank (layer_view x) ≡ 8)
+layer_element (Pattern-F.Element a) h f = h a refl
 layer_element (Pattern-F.Datum d None) h f = absurd (omega (arith, f))
 layer_element (Pattern-F.Datum d (Some q)) h f = absurd (omega (arith, f))
 layer_element x h f = absurd (omega (arith, f))
 
-pub not_element : (q : Pattern) → ((a : Box NameClass Global) (b : Box Pattern Global) → q ≡ variant.Element a b → ⊥) → ¬ (rank (pattern_view q) ≡ 8)
+pub not_element : (q : Pattern) → ((a : Box Named Global) → q ≡ variant.Element a → ⊥) → ¬ (rank (pattern_view q) ≡ 8)
 not_element q h f =
     let x = pattern.out-Pattern q in
     let whole : pattern.roll-Pattern x ≡ q = pattern.roll-out-Pattern q in
-    layer_element x (λ a b k. h a b (sym whole ∙ ap pattern.roll-Pattern k ∙ variant.rolls-Element a b)) (sym (by_view x) ∙ ap (λ n. rank (pattern_view n)) whole ∙ f)
+    layer_element x (λ a k. h a (sym whole ∙ ap pattern.roll-Pattern k ∙ variant.rolls-Element a)) (sym (by_view x) ∙ ap (λ n. rank (pattern_view n)) whole ∙ f)
 
-layer_oneormore : (x : Pattern-F Pattern) → ((a : Box Pattern Global) → x ≡ Pattern-F.OneOrMore a → ⊥) → ¬ (rank (pattern_step (map-Pattern Pattern Tree pattern_view x)) ≡ 9)
+layer_oneormore : (x : Pattern-F Pattern Named) → ((a : Box Pattern Global) → x ≡ Pattern-F.OneOrMore a → ⊥) → ¬ (rank (layer_view x) ≡ 9)
 layer_oneormore (Pattern-F.OneOrMore a) h f = h a refl
 layer_oneormore (Pattern-F.Datum d None) h f = absurd (omega (arith, f))
 layer_oneormore (Pattern-F.Datum d (Some q)) h f = absurd (omega (arith, f))
@@ -107,7 +111,7 @@ not_oneormore q h f =
     let whole : pattern.roll-Pattern x ≡ q = pattern.roll-out-Pattern q in
     layer_oneormore x (λ a k. h a (sym whole ∙ ap pattern.roll-Pattern k ∙ variant.rolls-OneOrMore a)) (sym (by_view x) ∙ ap (λ n. rank (pattern_view n)) whole ∙ f)
 
-layer_group : (x : Pattern-F Pattern) → ((a : Vec (Rc Pattern Global) Global) → x ≡ Pattern-F.Group a → ⊥) → ¬ (rank (pattern_step (map-Pattern Pattern Tree pattern_view x)) ≡ 10)
+layer_group : (x : Pattern-F Pattern Named) → ((a : Vec (Rc Pattern Global) Global) → x ≡ Pattern-F.Group a → ⊥) → ¬ (rank (layer_view x) ≡ 10)
 layer_group (Pattern-F.Group a) h f = h a refl
 layer_group (Pattern-F.Datum d None) h f = absurd (omega (arith, f))
 layer_group (Pattern-F.Datum d (Some q)) h f = absurd (omega (arith, f))
@@ -119,7 +123,7 @@ not_group q h f =
     let whole : pattern.roll-Pattern x ≡ q = pattern.roll-out-Pattern q in
     layer_group x (λ a k. h a (sym whole ∙ ap pattern.roll-Pattern k ∙ variant.rolls-Group a)) (sym (by_view x) ∙ ap (λ n. rank (pattern_view n)) whole ∙ f)
 
-layer_interleave : (x : Pattern-F Pattern) → ((a : Vec (Rc Pattern Global) Global) → x ≡ Pattern-F.Interleave a → ⊥) → ¬ (rank (pattern_step (map-Pattern Pattern Tree pattern_view x)) ≡ 11)
+layer_interleave : (x : Pattern-F Pattern Named) → ((a : Vec (Rc Pattern Global) Global) → x ≡ Pattern-F.Interleave a → ⊥) → ¬ (rank (layer_view x) ≡ 11)
 layer_interleave (Pattern-F.Interleave a) h f = h a refl
 layer_interleave (Pattern-F.Datum d None) h f = absurd (omega (arith, f))
 layer_interleave (Pattern-F.Datum d (Some q)) h f = absurd (omega (arith, f))
@@ -131,7 +135,7 @@ not_interleave q h f =
     let whole : pattern.roll-Pattern x ≡ q = pattern.roll-out-Pattern q in
     layer_interleave x (λ a k. h a (sym whole ∙ ap pattern.roll-Pattern k ∙ variant.rolls-Interleave a)) (sym (by_view x) ∙ ap (λ n. rank (pattern_view n)) whole ∙ f)
 
-layer_choice : (x : Pattern-F Pattern) → ((a : Vec (Rc Pattern Global) Global) → x ≡ Pattern-F.Choice a → ⊥) → ¬ (rank (pattern_step (map-Pattern Pattern Tree pattern_view x)) ≡ 12)
+layer_choice : (x : Pattern-F Pattern Named) → ((a : Vec (Rc Pattern Global) Global) → x ≡ Pattern-F.Choice a → ⊥) → ¬ (rank (layer_view x) ≡ 12)
 layer_choice (Pattern-F.Choice a) h f = h a refl
 layer_choice (Pattern-F.Datum d None) h f = absurd (omega (arith, f))
 layer_choice (Pattern-F.Datum d (Some q)) h f = absurd (omega (arith, f))
