@@ -110,7 +110,7 @@ impl<'s> Keys<'s> {
             Some(key) => key,
             None => self.find(name)?,
         };
-        next.note(self.place(key), false);
+        next.note(self.place(key), key == self.number_at(next.place));
         Some(key)
     }
 
@@ -136,7 +136,7 @@ impl<'s> Keys<'s> {
     {
         let place = next.in_step();
         let key = self.find_at(place, name)?;
-        next.note(place, place == next.place);
+        next.note(place, key == self.number_at(next.place));
         Some(key)
     }
 
@@ -196,6 +196,14 @@ impl<'s> Keys<'s> {
         match self.names.binary_search_by(compare) {
             Ok(at) => Some(at + 1),
             Err(_) => None,
+        }
+    }
+
+    /// The number of the key of the component at a place; that of start where there is none.
+    fn number_at(&self, place: usize) -> usize {
+        match self.placed.get(place) {
+            Some(placed) => placed.number,
+            None => START,
         }
     }
 
