@@ -2,8 +2,8 @@ use Rattle.std.proofs.Common.{◌≡◌, map, set, sym, ap, ◌∙◌, subst}
 use Rattle.std.specs.Prelude.{String, bytes_eq}
 use Rattle.std.specs.List.{IsDistinct}
 use Rattle.std.specs.declared.alloc.Global.{Global}
-use Rattle.rn_pattern.specs.Tree.{Tree, empty}
-use Rattle.rn_pattern.specs.View.{pattern_step, pattern_view}
+use Rattle.rn_pattern.specs.Tree.{NameTree, Tree, empty}
+use Rattle.rn_pattern.specs.View.{named_step, pattern_step, pattern_view}
 use Rattle.rn_pattern.specs.declared.tree.Pattern.{Pattern, fold-roll-Pattern}
 use Rattle.rn_pattern.specs.declared.tree.Pattern.TheOpen.{Pattern-F}
 use Rattle.rn_pattern.specs.declared.tree.Pattern.TheVariants as variant
@@ -14,7 +14,7 @@ use Rattle.rn_assemble.proofs.Referring.ListedNames.{body_put, names_stay}
 use Rattle.rn_assemble.proofs.grammar.definition_list.DefinitionList.take.Goals as goal
 
 empty_seen : pattern_view variant.Empty ≡ empty
-empty_seen = ap pattern_view (sym variant.rolls-Empty) ∙ fold-roll-Pattern Tree pattern_step Pattern-F.Empty
+empty_seen = ap pattern_view (sym variant.rolls-Empty) ∙ fold-roll-Pattern Tree (NameTree × Tree) pattern_step named_step Pattern-F.Empty
 
 pub invariant_of-self : goal.invariant_of-self
 invariant_of-self c =
