@@ -3,8 +3,7 @@
 /// How many references of a key have a step of their own.
 const STEPS: usize = 4;
 
-/// The place of the first component of the key that the reference with an index had last, and how far it was from the
-/// one before.
+/// The place of the component that was noted last for references with an index, and how far it was from the one before.
 #[derive(Clone, Copy, Default)]
 struct Step {
     place: usize,
@@ -49,7 +48,7 @@ impl NextKey {
         }
     }
 
-    /// Notes the place of the first component of the next reference's key, and whether that key was the one behind.
+    /// Notes the place of a component of the next reference's key, and whether that key was the one behind.
     pub(super) fn note(&mut self, place: usize, was_right: bool) {
         self.was_right = was_right;
         self.place = place.saturating_add(1);
