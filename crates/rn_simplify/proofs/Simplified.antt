@@ -15,6 +15,7 @@ pub mod PrunedForms
 pub mod Repeats
 pub mod MarkedElements
 pub mod Forms
+pub mod NamedParts
 pub mod Contents
 pub mod NodeKinds
 pub mod NodeSizes

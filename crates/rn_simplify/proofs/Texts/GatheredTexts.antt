@@ -14,9 +14,9 @@ use Rattle.rn_modset.proofs.OrderedMembers.RisingLists.{insert_held}
 use Rattle.rn_pattern.specs.Tree.{NameTree, name_trees_of, Tree, trees_of}
 use Rattle.rn_text.specs.Texts.{Text, text_cmp}
 use Rattle.rn_pattern.specs.Canonical.{put_once, sorted_once}
-use Rattle.rn_pattern.specs.View.{name_class_view, pattern_step, pattern_view, shared_trees}
+use Rattle.rn_pattern.specs.View.{name_class_view, named_step, pattern_step, pattern_view, shared_trees}
 use Rattle.rn_pattern.specs.declared.tree.Data.{Data}
-use Rattle.rn_pattern.specs.declared.tree.NameClass.{NameClass}
+use Rattle.rn_pattern.specs.declared.tree.Named.{Named}
 use Rattle.rn_pattern.specs.declared.tree.Pattern.{Pattern}
 use Rattle.rn_pattern.specs.declared.tree.Pattern.TheOpen.{Pattern-F}
 use Rattle.rn_pattern.specs.declared.tree.Pattern.TheFolds.{fold-roll-Pattern}
@@ -27,6 +27,7 @@ use Rattle.rn_pattern.proofs.Ordered.Ascending.{climbs_sorted_once}
 use Rattle.rn_assemble.proofs.Renaming.TextSets.{gathered_more, sorted_more}
 use Rattle.rn_simplify.specs.declared.mentions.Mentions.{Mentions}
 use Rattle.rn_simplify.proofs.ReadBack.OrderedTexts.{any_mapped}
+use Rattle.rn_simplify.proofs.Simplified.NamedParts.{attribute_seen, element_seen}
 use Rattle.rn_simplify.specs.Spelling.{name_uris, names_uris, mentions, mentions_all, is_other}
 use Rattle.rn_simplify.specs.inside.Gathers.{IsGathered, GathersTexts, Mentioned, nothing, mentioned_by_both, by_library, by_name, by_names, by_tree, by_trees, Gathers}
 
@@ -117,18 +118,12 @@ in_list p v (inl e) = ap (λ q. by_tree (pattern_view q)) e ∙ ap by_tree (grou
 in_list p v (inr (inl e)) = ap (λ q. by_tree (pattern_view q)) e ∙ ap by_tree (interleave_seen v)
 in_list p v (inr (inr e)) = ap (λ q. by_tree (pattern_view q)) e ∙ ap by_tree (choice_seen v)
 
-attribute_named : (n : Box NameClass Global) (q : Box Pattern Global) → by_tree (pattern_view (variant.Attribute n q)) ≡ mentioned_by_both (by_name (name_class_view n.value)) (by_tree (pattern_view q.value))
-attribute_named n q = ap by_tree (ap pattern_view (sym (variant.rolls-Attribute n q)) ∙ fold-roll-Pattern Tree pattern_step (Pattern-F.Attribute n q))
-
-element_named : (n : Box NameClass Global) (q : Box Pattern Global) → by_tree (pattern_view (variant.Element n q)) ≡ mentioned_by_both (by_name (name_class_view n.value)) (by_tree (pattern_view q.value))
-element_named n q = ap by_tree (ap pattern_view (sym (variant.rolls-Element n q)) ∙ fold-roll-Pattern Tree pattern_step (Pattern-F.Element n q))
-
 pub with_library : (p : Pattern) (d : Box Data Global) (o : Option (Box Pattern Global)) (q : Box Pattern Global) → p ≡ variant.Datum d o → o ≡ Some q → by_tree (pattern_view p) ≡ mentioned_by_both (by_library (rc_str_bytes d.value.library)) (by_tree (pattern_view q.value))
-with_library p d o q e h = ap (λ r. by_tree (pattern_view r)) (e ∙ ap (variant.Datum d) h ∙ sym (variant.rolls-Datum d (Some q))) ∙ ap by_tree (fold-roll-Pattern Tree pattern_step (Pattern-F.Datum d (Some q)))
+with_library p d o q e h = ap (λ r. by_tree (pattern_view r)) (e ∙ ap (variant.Datum d) h ∙ sym (variant.rolls-Datum d (Some q))) ∙ ap by_tree (fold-roll-Pattern Tree (NameTree × Tree) pattern_step named_step (Pattern-F.Datum d (Some q)))
 
-pub named : (p : Pattern) (n : Box NameClass Global) (q : Box Pattern Global) → (p ≡ variant.Attribute n q) ⊎ (p ≡ variant.Element n q) → by_tree (pattern_view p) ≡ mentioned_by_both (by_name (name_class_view n.value)) (by_tree (pattern_view q.value))
-named p n q (inl e) = ap (λ r. by_tree (pattern_view r)) e ∙ attribute_named n q
-named p n q (inr e) = ap (λ r. by_tree (pattern_view r)) e ∙ element_named n q
+pub named : (p : Pattern) (n : Box Named Global) → (p ≡ variant.Attribute n) ⊎ (p ≡ variant.Element n) → by_tree (pattern_view p) ≡ mentioned_by_both (by_name (name_class_view n.value.class)) (by_tree (pattern_view n.value.content))
+named p n (inl e) = ap (λ r. by_tree (pattern_view r)) e ∙ ap by_tree (attribute_seen n)
+named p n (inr e) = ap (λ r. by_tree (pattern_view r)) e ∙ ap by_tree (element_seen n)
 
 -- ---- which of them are declared
 

@@ -13,13 +13,14 @@ use Rattle.rn_pattern.specs.Tree as tree
 use Rattle.rn_pattern.specs.Tree.{NameTree, Tree}
 use Rattle.rn_text.specs.Texts.{Text}
 use Rattle.rn_pattern.specs.declared.tree.Data.{Data}
+use Rattle.rn_pattern.specs.declared.tree.Named.{Named}
 use Rattle.rn_pattern.specs.declared.tree.Pattern.{Pattern}
 use Rattle.rn_pattern.specs.declared.tree.Pattern.TheOpen.{Pattern-F}
 use Rattle.rn_pattern.specs.declared.tree.Pattern.TheViews.{out-Pattern, roll-Pattern, the_lemmas}
 use Rattle.rn_pattern.specs.declared.tree.Pattern.TheFolds.{fold-roll-Pattern}
 use Rattle.rn_simplify.specs.declared.writer.Writer.{Writer}
 use Rattle.rn_simplify.specs.Spelling.{Prefixes, NodeText, symbol, keyword, space, infix_of, in_braces, in_parentheses, primary, operand, chain, mixed_pieces, optional, optional_member, written_name, written_tree, written_choice, written_interleave}
-use Rattle.rn_pattern.specs.View.{pattern_step, pattern_view}
+use Rattle.rn_pattern.specs.View.{named_step, pattern_step, pattern_view}
 use Rattle.rn_simplify.specs.inside.Writes.{data_text, written_members, begins, none, opening, closing, Writes, WritesBytes}
 use Rattle.rn_simplify.proofs.Texts.Writing.{writes_nil, writes_as, writes_then, writes_pieces}
 use Rattle.rn_simplify.proofs.Texts.PartTexts.{writes_minus, writes_braced, writes_parenthesized, writes_part}
@@ -70,10 +71,10 @@ writes_except f p h k = writes_then (infix_of (codes "-")) (primary (written_tre
 -- with what is excepted, if anything is
 pub writes_datum : (f : Prefixes) (d : Box Data Global) (o : Option (Box Pattern Global)) {a b c : Writer} → Writes (data_text f d.value) a b → MatchOption o (Writes [] b c) (λ p. Writes (infix_of (codes "-") ++ primary (written_tree f (pattern_view p.value))) b c) → Writes (written_tree f (pattern_view (pat.Datum d o))).pieces a c
 writes_datum f d None {a} {b} {c} h k =
-    let e = ap pattern_view (sym (pat.rolls-Datum d None)) ∙ fold-roll-Pattern Tree pattern_step (Pattern-F.Datum d None) in
+    let e = ap pattern_view (sym (pat.rolls-Datum d None)) ∙ fold-roll-Pattern Tree (NameTree × Tree) pattern_step named_step (Pattern-F.Datum d None) in
     subst (λ t. Writes (written_tree f t).pieces a c) (sym e) (writes_as (append-nil _) (writes_then (data_text f d.value) [] h k))
 writes_datum f d (Some p) {a} {b} {c} h k =
-    let e = ap pattern_view (sym (pat.rolls-Datum d (Some p))) ∙ fold-roll-Pattern Tree pattern_step (Pattern-F.Datum d (Some p)) in
+    let e = ap pattern_view (sym (pat.rolls-Datum d (Some p))) ∙ fold-roll-Pattern Tree (NameTree × Tree) pattern_step named_step (Pattern-F.Datum d (Some p)) in
     subst (λ t. Writes (written_tree f t).pieces a c) (sym e) (writes_then (data_text f d.value) (infix_of (codes "-") ++ primary (written_tree f (pattern_view p.value))) h k)
 
 pub writes_list : (f : Prefixes) (p : Tree) {a b c : Writer} → WritesBytes (codes "list") none a b → Writes (in_braces (written_tree f p).pieces) b c → Writes (written_tree f (tree.list p)).pieces a c
@@ -215,24 +216,24 @@ interleave_not_repeated (w ∷ ws) = by_cond w.is_text _ _ refl refl
 abbrev repeated_of : Prefixes → Pattern → Option (List Piece)
 repeated_of f p = (written_tree f (pattern_view p)).repeated
 
-rolled : (f : Prefixes) (p : Pattern) (x : Pattern-F Pattern) → p ≡ roll-Pattern x → repeated_of f p ≡ repeated_of f (roll-Pattern x)
+rolled : (f : Prefixes) (p : Pattern) (x : Pattern-F Pattern Named) → p ≡ roll-Pattern x → repeated_of f p ≡ repeated_of f (roll-Pattern x)
 rolled f p x e = ap (repeated_of f) e
 
-not_repeated_at : (f : Prefixes) (p : Pattern) (x : Pattern-F Pattern) → p ≡ roll-Pattern x → ((b : Box Pattern Global) → p ≡ pat.OneOrMore b → ⊥) → repeated_of f p ≡ None
+not_repeated_at : (f : Prefixes) (p : Pattern) (x : Pattern-F Pattern Named) → p ≡ roll-Pattern x → ((b : Box Pattern Global) → p ≡ pat.OneOrMore b → ⊥) → repeated_of f p ≡ None
 not_repeated_at f p (Pattern-F.OneOrMore b) e h = absurd (h b (e ∙ pat.rolls-OneOrMore b))
-not_repeated_at f p Pattern-F.NotAllowed e h = rolled f p _ e ∙ ap (λ t. (written_tree f t).repeated) (fold-roll-Pattern Tree pattern_step Pattern-F.NotAllowed)
-not_repeated_at f p Pattern-F.Empty e h = rolled f p _ e ∙ ap (λ t. (written_tree f t).repeated) (fold-roll-Pattern Tree pattern_step Pattern-F.Empty)
-not_repeated_at f p Pattern-F.Text e h = rolled f p _ e ∙ ap (λ t. (written_tree f t).repeated) (fold-roll-Pattern Tree pattern_step Pattern-F.Text)
-not_repeated_at f p (Pattern-F.Ref x) e h = rolled f p _ e ∙ ap (λ t. (written_tree f t).repeated) (fold-roll-Pattern Tree pattern_step (Pattern-F.Ref x))
-not_repeated_at f p (Pattern-F.Value v) e h = rolled f p _ e ∙ ap (λ t. (written_tree f t).repeated) (fold-roll-Pattern Tree pattern_step (Pattern-F.Value v))
-not_repeated_at f p (Pattern-F.Datum d None) e h = rolled f p _ e ∙ ap (λ t. (written_tree f t).repeated) (fold-roll-Pattern Tree pattern_step (Pattern-F.Datum d None))
-not_repeated_at f p (Pattern-F.Datum d (Some b)) e h = rolled f p _ e ∙ ap (λ t. (written_tree f t).repeated) (fold-roll-Pattern Tree pattern_step (Pattern-F.Datum d (Some b)))
-not_repeated_at f p (Pattern-F.List b) e h = rolled f p _ e ∙ ap (λ t. (written_tree f t).repeated) (fold-roll-Pattern Tree pattern_step (Pattern-F.List b))
-not_repeated_at f p (Pattern-F.Attribute n b) e h = rolled f p _ e ∙ ap (λ t. (written_tree f t).repeated) (fold-roll-Pattern Tree pattern_step (Pattern-F.Attribute n b))
-not_repeated_at f p (Pattern-F.Element n b) e h = rolled f p _ e ∙ ap (λ t. (written_tree f t).repeated) (fold-roll-Pattern Tree pattern_step (Pattern-F.Element n b))
-not_repeated_at f p (Pattern-F.Group v) e h = rolled f p _ e ∙ ap (λ t. (written_tree f t).repeated) (fold-roll-Pattern Tree pattern_step (Pattern-F.Group v))
-not_repeated_at f p (Pattern-F.Interleave v) e h = rolled f p _ e ∙ ap (λ t. (written_tree f t).repeated) (fold-roll-Pattern Tree pattern_step (Pattern-F.Interleave v)) ∙ interleave_not_repeated _
-not_repeated_at f p (Pattern-F.Choice v) e h = rolled f p _ e ∙ ap (λ t. (written_tree f t).repeated) (fold-roll-Pattern Tree pattern_step (Pattern-F.Choice v)) ∙ choice_not_repeated _
+not_repeated_at f p Pattern-F.NotAllowed e h = rolled f p _ e ∙ ap (λ t. (written_tree f t).repeated) (fold-roll-Pattern Tree (NameTree × Tree) pattern_step named_step Pattern-F.NotAllowed)
+not_repeated_at f p Pattern-F.Empty e h = rolled f p _ e ∙ ap (λ t. (written_tree f t).repeated) (fold-roll-Pattern Tree (NameTree × Tree) pattern_step named_step Pattern-F.Empty)
+not_repeated_at f p Pattern-F.Text e h = rolled f p _ e ∙ ap (λ t. (written_tree f t).repeated) (fold-roll-Pattern Tree (NameTree × Tree) pattern_step named_step Pattern-F.Text)
+not_repeated_at f p (Pattern-F.Ref x) e h = rolled f p _ e ∙ ap (λ t. (written_tree f t).repeated) (fold-roll-Pattern Tree (NameTree × Tree) pattern_step named_step (Pattern-F.Ref x))
+not_repeated_at f p (Pattern-F.Value v) e h = rolled f p _ e ∙ ap (λ t. (written_tree f t).repeated) (fold-roll-Pattern Tree (NameTree × Tree) pattern_step named_step (Pattern-F.Value v))
+not_repeated_at f p (Pattern-F.Datum d None) e h = rolled f p _ e ∙ ap (λ t. (written_tree f t).repeated) (fold-roll-Pattern Tree (NameTree × Tree) pattern_step named_step (Pattern-F.Datum d None))
+not_repeated_at f p (Pattern-F.Datum d (Some b)) e h = rolled f p _ e ∙ ap (λ t. (written_tree f t).repeated) (fold-roll-Pattern Tree (NameTree × Tree) pattern_step named_step (Pattern-F.Datum d (Some b)))
+not_repeated_at f p (Pattern-F.List b) e h = rolled f p _ e ∙ ap (λ t. (written_tree f t).repeated) (fold-roll-Pattern Tree (NameTree × Tree) pattern_step named_step (Pattern-F.List b))
+not_repeated_at f p (Pattern-F.Attribute n) e h = rolled f p _ e ∙ ap (λ t. (written_tree f t).repeated) (fold-roll-Pattern Tree (NameTree × Tree) pattern_step named_step (Pattern-F.Attribute n))
+not_repeated_at f p (Pattern-F.Element n) e h = rolled f p _ e ∙ ap (λ t. (written_tree f t).repeated) (fold-roll-Pattern Tree (NameTree × Tree) pattern_step named_step (Pattern-F.Element n))
+not_repeated_at f p (Pattern-F.Group v) e h = rolled f p _ e ∙ ap (λ t. (written_tree f t).repeated) (fold-roll-Pattern Tree (NameTree × Tree) pattern_step named_step (Pattern-F.Group v))
+not_repeated_at f p (Pattern-F.Interleave v) e h = rolled f p _ e ∙ ap (λ t. (written_tree f t).repeated) (fold-roll-Pattern Tree (NameTree × Tree) pattern_step named_step (Pattern-F.Interleave v)) ∙ interleave_not_repeated _
+not_repeated_at f p (Pattern-F.Choice v) e h = rolled f p _ e ∙ ap (λ t. (written_tree f t).repeated) (fold-roll-Pattern Tree (NameTree × Tree) pattern_step named_step (Pattern-F.Choice v)) ∙ choice_not_repeated _
 
 pub not_repeated : (f : Prefixes) (p : Pattern) → ((b : Box Pattern Global) → p ≡ pat.OneOrMore b → ⊥) → (written_tree f (pattern_view p)).repeated ≡ None
 not_repeated f p h = not_repeated_at f p (out-Pattern p) (search (rules, the_lemmas)) h

@@ -2,15 +2,16 @@ use Rattle.std.proofs.Common.{rules, ◌≡◌, ◌-◌, ℕ, length, take, drop
 use Rattle.std.specs.Prelude.{codes, MatchOption}
 use Rattle.std.specs.Str.{chars}
 use Rattle.rn_pattern.specs.Tree as tree
-use Rattle.rn_pattern.specs.Tree.{Tree}
+use Rattle.rn_pattern.specs.Tree.{NameTree, Tree}
 use Rattle.rn_pattern.specs.declared.tree.Pattern.TheFolds.{fold_out-Pattern, fold-roll-Pattern}
 use Rattle.rn_pattern.specs.declared.tree.Pattern.TheViews.{the_lemmas}
 use Rattle.rn_simplify.specs.Spelling.{chain, comma, infix_of, operand, optional_member, primary, written_choice, written_interleave, written_tree}
-use Rattle.rn_pattern.specs.View.{name_class_view, pattern_step, pattern_view}
+use Rattle.rn_pattern.specs.View.{name_class_view, named_step, pattern_step, pattern_view}
 use Rattle.rn_simplify.specs.inside.Writes.{bytes_of, data_text, depth_after, prefixes_view, written_members, Writes}
 use Rattle.rn_simplify.proofs.Texts.Writing.{writes_as, writes_pieces}
 use Rattle.rn_simplify.proofs.Texts.PartTexts.{writes_identifier, writes_braced, writes_parenthesized}
 use Rattle.rn_simplify.proofs.ReadBack.Chains.{before}
+use Rattle.rn_simplify.proofs.Simplified.NamedParts.{attribute_seen, element_seen}
 use Rattle.rn_simplify.proofs.Texts.Members.{group_rows, interleave_rows, choice_rows}
 use Rattle.rn_simplify.proofs.Texts.NodeTexts.{writes_not_allowed, writes_empty, writes_text, writes_except, writes_datum, writes_list, writes_attribute, writes_element, writes_one_or_more, writes_repeated, writes_maybe, writes_no_other, writes_one_other, writes_others, writes_no_choice, writes_optional, writes_choice, writes_no_interleave, writes_mixed, writes_interleave, writes_one_mixed, writes_several_mixed, row_count, not_repeated, chain_begins, chain_more, chain_no_connector, chain_connector, chain_ends}
 use Rattle.rn_simplify.proofs.pattern_text.+pattern.Goals as goal
@@ -111,7 +112,7 @@ pub write_optional_member-returns-in-OneOrMore : goal.write_optional_member-retu
 write_optional_member-returns-in-OneOrMore t c =
     let f = prefixes_view c.args.prefixes.now in
     let p = pattern_view c.deref.result.now in
-    let e : pattern_view c.args.other.now ≡ tree.one_or_more p = search (rules, the_lemmas, fold_out-Pattern Tree pattern_step, fold-roll-Pattern Tree pattern_step) in
+    let e : pattern_view c.args.other.now ≡ tree.one_or_more p = search (rules, the_lemmas, fold_out-Pattern Tree (NameTree × Tree) pattern_step named_step, fold-roll-Pattern Tree (NameTree × Tree) pattern_step named_step) in
     subst (λ q. Writes (optional_member (written_tree f q).repeated (written_tree f q)) c.args.writer.now c.put.new.self) (sym e) (writes_repeated f p c.write_primary.ensures c.put.ensures)
 
 pub write_optional_member-returns-in_default : goal.write_optional_member-returns-in_default
@@ -123,26 +124,26 @@ write_optional_member-returns-in_default t c =
 pub write_pattern-returns-in-NotAllowed : goal.write_pattern-returns-in-NotAllowed
 write_pattern-returns-in-NotAllowed t c =
     let f = prefixes_view c.args.prefixes.now in
-    let e : pattern_view c.args.pattern.now ≡ tree.not_allowed = search (rules, the_lemmas, fold_out-Pattern Tree pattern_step, fold-roll-Pattern Tree pattern_step) in
+    let e : pattern_view c.args.pattern.now ≡ tree.not_allowed = search (rules, the_lemmas, fold_out-Pattern Tree (NameTree × Tree) pattern_step named_step, fold-roll-Pattern Tree (NameTree × Tree) pattern_step named_step) in
     subst (λ q. Writes (written_tree f q).pieces c.args.writer.now c.put.new.self) (sym e) (writes_not_allowed c.put.ensures)
 
 pub write_pattern-returns-in-Empty : goal.write_pattern-returns-in-Empty
 write_pattern-returns-in-Empty t c =
     let f = prefixes_view c.args.prefixes.now in
-    let e : pattern_view c.args.pattern.now ≡ tree.empty = search (rules, the_lemmas, fold_out-Pattern Tree pattern_step, fold-roll-Pattern Tree pattern_step) in
+    let e : pattern_view c.args.pattern.now ≡ tree.empty = search (rules, the_lemmas, fold_out-Pattern Tree (NameTree × Tree) pattern_step named_step, fold-roll-Pattern Tree (NameTree × Tree) pattern_step named_step) in
     subst (λ q. Writes (written_tree f q).pieces c.args.writer.now c.put-in-Empty.new.self) (sym e) (writes_empty c.put-in-Empty.ensures)
 
 pub write_pattern-returns-in-Text : goal.write_pattern-returns-in-Text
 write_pattern-returns-in-Text t c =
     let f = prefixes_view c.args.prefixes.now in
-    let e : pattern_view c.args.pattern.now ≡ tree.text = search (rules, the_lemmas, fold_out-Pattern Tree pattern_step, fold-roll-Pattern Tree pattern_step) in
+    let e : pattern_view c.args.pattern.now ≡ tree.text = search (rules, the_lemmas, fold_out-Pattern Tree (NameTree × Tree) pattern_step named_step, fold-roll-Pattern Tree (NameTree × Tree) pattern_step named_step) in
     subst (λ q. Writes (written_tree f q).pieces c.args.writer.now c.put-in-Text.new.self) (sym e) (writes_text c.put-in-Text.ensures)
 
 pub write_pattern-returns-in-Ref : goal.write_pattern-returns-in-Ref
 write_pattern-returns-in-Ref t c =
     let f = prefixes_view c.args.prefixes.now in
     let x = c.as_str.result.now in
-    let e : pattern_view c.args.pattern.now ≡ tree.ref x = search (rules, the_lemmas, fold_out-Pattern Tree pattern_step, fold-roll-Pattern Tree pattern_step) in
+    let e : pattern_view c.args.pattern.now ≡ tree.ref x = search (rules, the_lemmas, fold_out-Pattern Tree (NameTree × Tree) pattern_step named_step, fold-roll-Pattern Tree (NameTree × Tree) pattern_step named_step) in
     subst (λ q. Writes (written_tree f q).pieces c.args.writer.now c.put_identifier.new.self) (sym e) (writes_identifier x c.as_str.ensures.utf8 c.put_identifier.ensures)
 
 pub write_except-returns-in-Some : goal.write_except-returns-in-Some
@@ -163,30 +164,32 @@ pub write_pattern-returns-in-List : goal.write_pattern-returns-in-List
 write_pattern-returns-in-List t c =
     let f = prefixes_view c.args.prefixes.now in
     let p = pattern_view c.deref-in-List.result.now in
-    let e : pattern_view c.args.pattern.now ≡ tree.list p = search (rules, the_lemmas, fold_out-Pattern Tree pattern_step, fold-roll-Pattern Tree pattern_step) in
+    let e : pattern_view c.args.pattern.now ≡ tree.list p = search (rules, the_lemmas, fold_out-Pattern Tree (NameTree × Tree) pattern_step named_step, fold-roll-Pattern Tree (NameTree × Tree) pattern_step named_step) in
     subst (λ q. Writes (written_tree f q).pieces c.args.writer.now c.write_in_braces.new.writer) (sym e) (writes_list f p c.put-in-List.ensures c.write_in_braces.ensures)
 
 pub write_pattern-returns-in-Attribute : goal.write_pattern-returns-in-Attribute
 write_pattern-returns-in-Attribute t c =
     let f = prefixes_view c.args.prefixes.now in
-    let n = name_class_view c.deref-in-Attribute.result.now in
-    let p = pattern_view c.deref-in-Attribute-2.result.now in
-    let e : pattern_view c.args.pattern.now ≡ tree.attribute n p = search (rules, the_lemmas, fold_out-Pattern Tree pattern_step, fold-roll-Pattern Tree pattern_step) in
+    let n = name_class_view c.deref-in-Attribute.result.now.class in
+    let p = pattern_view c.deref-in-Attribute-2.result.now.content in
+    let e : pattern_view c.args.pattern.now ≡ tree.attribute n p = ap pattern_view c.in-Attribute.is ∙ attribute_seen c.in-Attribute.named
+    ∙ (λ i. tree.attribute (name_class_view (sym c.deref-in-Attribute.ensures i).class) (pattern_view (sym c.deref-in-Attribute-2.ensures i).content)) in
     subst (λ q. Writes (written_tree f q).pieces c.args.writer.now c.write_in_braces-in-Attribute.new.writer) (sym e) (writes_attribute f n p c.write_head.ensures c.write_in_braces-in-Attribute.ensures)
 
 pub write_pattern-returns-in-Element : goal.write_pattern-returns-in-Element
 write_pattern-returns-in-Element t c =
     let f = prefixes_view c.args.prefixes.now in
-    let n = name_class_view c.deref-in-Element.result.now in
-    let p = pattern_view c.deref-in-Element-2.result.now in
-    let e : pattern_view c.args.pattern.now ≡ tree.element n p = search (rules, the_lemmas, fold_out-Pattern Tree pattern_step, fold-roll-Pattern Tree pattern_step) in
+    let n = name_class_view c.deref-in-Element.result.now.class in
+    let p = pattern_view c.deref-in-Element-2.result.now.content in
+    let e : pattern_view c.args.pattern.now ≡ tree.element n p = ap pattern_view c.in-Element.is ∙ element_seen c.in-Element.named
+    ∙ (λ i. tree.element (name_class_view (sym c.deref-in-Element.ensures i).class) (pattern_view (sym c.deref-in-Element-2.ensures i).content)) in
     subst (λ q. Writes (written_tree f q).pieces c.args.writer.now c.write_in_braces-in-Element.new.writer) (sym e) (writes_element f n p c.write_head-in-Element.ensures c.write_in_braces-in-Element.ensures)
 
 pub write_pattern-returns-in-OneOrMore : goal.write_pattern-returns-in-OneOrMore
 write_pattern-returns-in-OneOrMore t c =
     let f = prefixes_view c.args.prefixes.now in
     let p = pattern_view c.deref-in-OneOrMore.result.now in
-    let e : pattern_view c.args.pattern.now ≡ tree.one_or_more p = search (rules, the_lemmas, fold_out-Pattern Tree pattern_step, fold-roll-Pattern Tree pattern_step) in
+    let e : pattern_view c.args.pattern.now ≡ tree.one_or_more p = search (rules, the_lemmas, fold_out-Pattern Tree (NameTree × Tree) pattern_step named_step, fold-roll-Pattern Tree (NameTree × Tree) pattern_step named_step) in
     subst (λ q. Writes (written_tree f q).pieces c.args.writer.now c.put-in-OneOrMore.new.self) (sym e) (writes_one_or_more f p c.write_primary.ensures c.put-in-OneOrMore.ensures)
 
 pub write_pattern-returns-in-Group : goal.write_pattern-returns-in-Group

@@ -10,8 +10,8 @@ use Rattle.rn_simplify.proofs.Simplified.NodeSizes.{tree_size, ids_size, member_
 use Rattle.rn_simplify.proofs.Simplified.NodeKinds.{members_in, size_in, over_one, content_in, over_size, node_of_datum}
 use Rattle.rn_simplify.proofs.rebuilding.+rebuild.Goals as goal
 
-pub rebuild-rebuild_box-requires : goal.rebuild-rebuild_box-requires
-rebuild-rebuild_box-requires g t c κs within =
+pub rebuild-rebuild-requires : goal.rebuild-rebuild-requires
+rebuild-rebuild-requires g t c κs within =
     let at = g.P.Patterns.tree_of c.args.store.now in
     let k = g.P.Patterns.knows c.args.store.now in
     let n = c.node-node.result.now in

@@ -9,7 +9,7 @@ use Rattle.rn_pattern.specs.View.{pattern_view, shared_trees}
 use Rattle.rn_pattern.proofs.Ordered.PatternKinds.{group_seen, interleave_seen, choice_seen}
 use Rattle.rn_simplify.specs.inside.ListParts.{members_step, parts, parts_of}
 use Rattle.rn_simplify.specs.inside.FormKinds.{becomes, becomes_by, settled_form}
-use Rattle.rn_simplify.proofs.Simplified.Contents.{content_seen}
+use Rattle.rn_simplify.proofs.Simplified.Contents.{content_seen, named_content_seen}
 use Rattle.rn_simplify.proofs.Simplified.FormKinds.{settled_canonical}
 use Rattle.rn_simplify.proofs.Simplified.StoreIds.{keeps_then, then_kept, trees_still}
 use Rattle.rn_simplify.proofs.Simplified.ListParts.{choice_parts, group_parts, interleave_parts, parts_more, parts_same}
@@ -19,14 +19,25 @@ use Rattle.rn_simplify.proofs.stored_forms.+canonical_form.Goals as goal
 
 pub canonical_form-returns-in_ok-content-in-List-clause-kept : goal.canonical_form-returns-in_ok-content-in-List-clause-kept
 canonical_form-returns-in_ok-content-in-List-clause-kept g t c =
-    then_kept g.P.Patterns.knows g.P.Patterns.tree_of c.args.store.now c.canonical_form-in-List.new.store c.form_over_content.new.store c.canonical_form-in-List.ensures.kept c.form_over_content.ensures.kept
+    then_kept g.P.Patterns.knows g.P.Patterns.tree_of c.args.store.now c.canonical_form-in-List.new.store c.form_over_content-in-List.new.store c.canonical_form-in-List.ensures.kept c.form_over_content-in-List.ensures.kept
 
 pub canonical_form-returns-in_ok-content-in-List-clause-made : goal.canonical_form-returns-in_ok-content-in-List-clause-made
 canonical_form-returns-in_ok-content-in-List-clause-made g t c =
     let s = becomes c.args.settled.now in
-    c.form_over_content.ensures.made s
+    c.form_over_content-in-List.ensures.made s
     (ap (option_map (canonical s)) (content_seen c.args.pattern.now c.in-List.content c.in-List.is)
     ∙ ap Some (ap (λ p. canonical s (pattern_view p)) (sym c.deref-in-List.ensures) ∙ sym c.in_ok-content-in-List.ensures.made.1))
+
+pub canonical_form-returns-in_ok-content-in-Attribute-clause-kept : goal.canonical_form-returns-in_ok-content-in-Attribute-clause-kept
+canonical_form-returns-in_ok-content-in-Attribute-clause-kept g t c =
+    then_kept g.P.Patterns.knows g.P.Patterns.tree_of c.args.store.now c.canonical_form-in-Attribute.new.store c.form_over_content.new.store c.canonical_form-in-Attribute.ensures.kept c.form_over_content.ensures.kept
+
+pub canonical_form-returns-in_ok-content-in-Attribute-clause-made : goal.canonical_form-returns-in_ok-content-in-Attribute-clause-made
+canonical_form-returns-in_ok-content-in-Attribute-clause-made g t c =
+    let s = becomes c.args.settled.now in
+    c.form_over_content.ensures.made s
+    (ap (option_map (canonical s)) (named_content_seen c.args.pattern.now c.in-Attribute.named c.in-Attribute.is)
+    ∙ ap Some (ap (λ n. canonical s (pattern_view n.content)) (sym c.deref-in-Attribute.ensures) ∙ sym c.in_ok-content-in-Attribute.ensures.made.1))
 
 pub canonical_form-returns-in-Group-clause-made : goal.canonical_form-returns-in-Group-clause-made
 canonical_form-returns-in-Group-clause-made g t c =

@@ -28,12 +28,12 @@ add_pattern-returns-in-Group t c =
 
 pub add_pattern-returns-in_ok-add_class-in-Attribute : goal.add_pattern-returns-in_ok-add_class-in-Attribute
 add_pattern-returns-in_ok-add_class-in-Attribute t c =
-    let n = c.deref-in-Attribute.result.now in
-    let p = c.deref-in-Attribute-2.result.now in
+    let n = c.deref-in-Attribute.result.now.class in
+    let p = c.deref-in-Attribute-2.result.now.content in
     let r = c.add_pattern-in-Attribute.result in
     let z = c.add_pattern-in-Attribute.new.self in
-    let e = named c.args.pattern.now c.in-Attribute.class c.in-Attribute.content c.in-Attribute.is
-    ∙ sym (λ i. mentioned_by_both (by_name (name_class_view (c.deref-in-Attribute.ensures i))) (by_tree (pattern_view (c.deref-in-Attribute-2.ensures i)))) in
+    let e = named c.args.pattern.now c.in-Attribute.named c.in-Attribute.is
+    ∙ sym (λ i. mentioned_by_both (by_name (name_class_view (c.deref-in-Attribute.ensures i).class)) (by_tree (pattern_view (c.deref-in-Attribute-2.ensures i).content))) in
     subst (λ m. OnOk r (Gathers m c.args.self.now z)) (sym e)
     (gathers_unless r (by_name (name_class_view n)) (by_tree (pattern_view p)) z c.in_ok-add_class-in-Attribute.ensures c.add_pattern-in-Attribute.ensures)
 
