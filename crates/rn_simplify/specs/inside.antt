@@ -9,4 +9,5 @@ pub mod NodeKinds
 pub mod ReferredNames
 pub mod Repeats
 pub mod SettlingOrder
+pub mod StayingKinds
 pub mod Writes

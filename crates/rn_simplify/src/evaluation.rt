@@ -11,6 +11,7 @@ ghost use Rattle.rn_simplify.specs.inside.SettlingOrder.{IsInOrder};
 ghost use Rattle.rn_simplify.specs.inside.FormKinds.{becomes, tree_kind, group_kind, choice_kind, becomes_by, kind_in, kind_of, settled_form};
 ghost use Rattle.rn_simplify.specs.inside.Repeats.{AreFirstsOf};
 
+use crate::definition_kinds::DefinitionKinds;
 use crate::definition_numbers::Likely;
 use crate::form_kind::FormKind;
 use crate::repeated_members::without_repeats;
@@ -45,10 +46,10 @@ fn settle<'g>(
         ≡ (listed_view grammar.now).definitions) }
     ensures settled { IfOk result (λ s. IsInOrder (listed_view grammar.now).definitions order.now
         → AreSettled (listed_view grammar.now).definitions order.now
-        (becomes_by (listed_view grammar.now).definitions s.kinds.items)) }
+        (becomes_by (listed_view grammar.now).definitions s.kinds.of_each.items)) }
 {
     let definitions = grammar.defs();
-    let kinds = vec![in alloc; FormKind::Other; definitions.len()]?;
+    let kinds = DefinitionKinds::all_other(alloc, definitions.len())?;
     let mut settled = SettledDefinitions {
         definitions,
         kinds,
@@ -73,15 +74,15 @@ fn settle_definition(
         ≡ (listed_view grammar.now).definitions }
     ensures definitions { settled.new.definitions.now.entries.items
         ≡ settled.old.definitions.now.entries.items }
-    ensures settled { OnOk result ((d : Text × Tree) → settled.new.kinds.items
-        ≡ slice_set settled.old.kinds.items number (kind_of (settled_form settled.old
+    ensures settled { OnOk result ((d : Text × Tree) → settled.new.kinds.of_each.items
+        ≡ slice_set settled.old.kinds.of_each.items number (kind_of (settled_form settled.old
         (slice_index_or (definitions_view settled.old.definitions.now.entries.items)
         number d).1))) }
 {
     let body = settled.definitions.body_of(number);
     let mut likely = Likely::of_definition(settled.likely, number);
     let kind = evaluate_body(alloc, settled, &mut likely, body, grammar.firsts(number))?;
-    settled.kinds[number] = kind;
+    settled.kinds.set(number, kind);
     Ok(())
 }
 

@@ -1,5 +1,5 @@
 // The kinds of canonical forms: notAllowed and empty replace references, others do not (RELAX NG 2001, 4.20 and 4.21).
-ghost use Rattle.std.specs.Prelude.{◌≡◌};
+ghost use Rattle.std.specs.Prelude.{◌≡◌, IsTrue};
 ghost use Rattle.rn_simplify.specs.inside.FormKinds.{around, both, either};
 
 /// What kind of canonical form a pattern has.
@@ -14,6 +14,14 @@ pub(crate) enum FormKind {
 }
 
 impl FormKind {
+    /// Whether it is that of neither `notAllowed` nor `empty`.
+    #[inline(always)]
+    pub(crate) fn is_other(self) -> bool
+        ensures { IsTrue result → self ≡ FormKind.Other }
+    {
+        matches!(self, FormKind::Other)
+    }
+
     /// The kind of a list or an attribute whose content is of this one: `notAllowed` is passed on (4.20).
     pub(crate) fn around(self) -> FormKind
         ensures { result ≡ around self }

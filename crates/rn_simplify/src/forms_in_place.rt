@@ -13,9 +13,9 @@ ghost use Rattle.rn_simplify.specs.inside.DefinitionNumbers.{reference_numbers, 
 ghost use Rattle.rn_simplify.specs.inside.FormKinds.{becomes_by, settled_definitions};
 
 use crate::body_forms::{body_form, owned_body_form};
+use crate::definition_kinds::DefinitionKinds;
 use crate::definition_numbers::Likely;
 use crate::evaluation::settle_all;
-use crate::form_kind::FormKind;
 use crate::reference_numbers::referred_numbers;
 use crate::settled_definitions::SettledDefinitions;
 use rn_assemble::{DefinitionList, LikelyReferences, Listed};
@@ -26,13 +26,13 @@ use std::alloc::{AllocError, Global};
 pub(crate) fn settled_start(
     alloc: Global,
     grammar: &Listed<'_>,
-) -> Result<(Pattern, Vec<FormKind>), AllocError>
-    ensures sized { IfOk result (λ r. length r.1.items
+) -> Result<(Pattern, DefinitionKinds), AllocError>
+    ensures sized { IfOk result (λ r. length r.1.of_each.items
         ≡ length (listed_view grammar.now).definitions) }
     ensures exact { IfOk result (λ r. (rank : Text → ℕ) × IsSettling (listed_view grammar.now)
-        (becomes_by (listed_view grammar.now).definitions r.1.items) rank) }
+        (becomes_by (listed_view grammar.now).definitions r.1.of_each.items) rank) }
     ensures start { IfOk result (λ r. pattern_view r.0
-        ≡ canonical (becomes_by (listed_view grammar.now).definitions r.1.items)
+        ≡ canonical (becomes_by (listed_view grammar.now).definitions r.1.of_each.items)
         (listed_view grammar.now).start) }
 {
     let settled = settle_all(alloc, grammar)?;
@@ -49,13 +49,13 @@ pub(crate) fn form_definitions(
     definitions: &mut DefinitionList,
     likely: &LikelyReferences,
     seed: &Seed,
-    mut kinds: Vec<FormKind>,
+    mut kinds: DefinitionKinds,
     firsts: &[Vec<u32>],
 ) -> Result<Rows, AllocError>
-    requires sized { length kinds.items ≡ length definitions.old.entries.items }
+    requires sized { length kinds.of_each.items ≡ length definitions.old.entries.items }
     requires firsts { HaveFirsts firsts.now (definitions_view definitions.old.entries.items) }
     ensures formed { IfOk result (λ _. definitions_view definitions.new.entries.items
-        ≡ settled_definitions (definitions_view definitions.old.entries.items) kinds.items) }
+        ≡ settled_definitions (definitions_view definitions.old.entries.items) kinds.of_each.items) }
     ensures rows { IfOk result (λ rows. rows_of rows
         ≡ rows_by (definitions_view definitions.new.entries.items)
         (definitions_view definitions.new.entries.items)) }
@@ -116,19 +116,19 @@ fn form_at(
     definitions: &mut DefinitionList,
     likely: &LikelyReferences,
     seed: &Seed,
-    kinds: Vec<FormKind>,
+    kinds: DefinitionKinds,
     number: usize,
     firsts: &[u32],
-) -> Result<Vec<FormKind>, AllocError>
+) -> Result<DefinitionKinds, AllocError>
     requires within { number < length definitions.old.entries.items }
-    requires sized { length kinds.items ≡ length definitions.old.entries.items }
+    requires sized { length kinds.of_each.items ≡ length definitions.old.entries.items }
     requires firsts { (d : Text × Tree) → AreFirsts firsts.now (joined_members
         (slice_index_or (definitions_view definitions.old.entries.items) number d).1) }
     ensures put { OnOk result ((d : Text × Tree) → definitions_view definitions.new.entries.items
         ≡ set_value_at (definitions_view definitions.old.entries.items) number
-        (canonical (becomes_by (definitions_view definitions.old.entries.items) kinds.items)
+        (canonical (becomes_by (definitions_view definitions.old.entries.items) kinds.of_each.items)
         (slice_index_or (definitions_view definitions.old.entries.items) number d).1)) }
-    ensures kept { IfOk result (λ v. v.items ≡ kinds.items) }
+    ensures kept { IfOk result (λ v. v.of_each.items ≡ kinds.of_each.items) }
 {
     let body = definitions.take(number);
     let settled = SettledDefinitions {

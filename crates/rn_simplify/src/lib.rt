@@ -8,6 +8,7 @@
 mod body_forms;
 mod class_text;
 mod declared_prefixes;
+mod definition_kinds;
 mod definition_numbers;
 mod evaluation;
 mod form_kind;

@@ -11,7 +11,7 @@ use Rattle.rn_simplify.proofs.Simplified.SettledMore.{settled_more, settled_none
 use Rattle.rn_simplify.proofs.evaluation.settle.Goals as goal
 
 pub invariant_of-settled : goal.invariant_of-settled
-invariant_of-settled c = record { sized = omega (arith, c.in_ok-kinds.ensures.len, c.len.ensures, c.in_ok-kinds.kinds.ok.0) }
+invariant_of-settled c = record { sized = c.in_ok-kinds.ensures ∙ c.len.ensures }
 
 pub settle_definition-requires-clause-within : goal.settle_definition-requires-clause-within
 settle_definition-requires-clause-within c =
@@ -35,8 +35,8 @@ loop-number-preserved c =
     let order = c.args.order.now in
     let i = c.loop-number.number-index in
     let n = get_or order i 0 in
-    let kinds = c.loop-number.settled.kinds.items in
-    let kinds' = c.settle_definition.new.settled.kinds.items in
+    let kinds = c.loop-number.settled.kinds.of_each.items in
+    let kinds' = c.settle_definition.new.settled.kinds.of_each.items in
     let size : length kinds ≡ length ds = omega (arith, c.loop-number.settled.sized, ap length inv.definitions, size_of_view c.loop-number.settled.definitions.now.entries.items) in
     let one : kinds' ≡ set kinds n (kind_of (canonical (becomes_by ds kinds) (get_or ds n nothing).1)) =
     subst (λ es. kinds' ≡ set kinds n (kind_of (canonical (becomes_by es kinds) (get_or es n nothing).1))) inv.definitions (c.in_ok-settle_definition.ensures.settled nothing) in
@@ -48,7 +48,7 @@ loop-number-preserved c =
 pub returns-clause-settled : goal.returns-clause-settled
 returns-clause-settled c = λ o.
     let ds = (listed_view c.args.grammar.now).definitions in
-    let t = becomes_by ds c.loop-number.settled.kinds.items in
+    let t = becomes_by ds c.loop-number.settled.kinds.of_each.items in
     subst (λ (ns : List ℕ). AreSettled ds ns t) (take_all c.loop-number.number-index c.args.order.now (omega arith)) (c.loop-number.invariant.settled o)
 
 pub returns-clause-definitions : goal.returns-clause-definitions

@@ -9,5 +9,5 @@ abbrev pub invariant-loop-number : goal.invariant-loop-number
 invariant-loop-number l = record {
   definitions : definitions_view l.settled.definitions.now.entries.items ≡ (listed_view l.grammar).definitions;
   settled : IsInOrder (listed_view l.grammar).definitions l.order
-      → AreSettled (listed_view l.grammar).definitions (take l.number-index l.order) (becomes_by (listed_view l.grammar).definitions l.settled.kinds.items);
+      → AreSettled (listed_view l.grammar).definitions (take l.number-index l.order) (becomes_by (listed_view l.grammar).definitions l.settled.kinds.of_each.items);
 }

@@ -26,7 +26,7 @@ returns-clause-exact c =
     let w = c.args.grammar.now.well_formed in
     let o = c.settling_order.ensures in
     let es = definitions_view s.definitions.now.entries.items in
-    let kinds = s.kinds.items in
+    let kinds = s.kinds.of_each.items in
     let settled : AreSettled G.definitions order (becomes_by G.definitions kinds) = h.1 (in_order G order o) in
     let here : AreSettled G.definitions order (becomes_by es kinds) = subst (λ (fs : List (Text × Tree)). AreSettled G.definitions order (becomes_by fs kinds)) (sym h.0) settled in
     (rank G order o, settling_is G (becomes_by es kinds) order w o (settled_canonical es kinds) here))

@@ -16,5 +16,5 @@ evaluate_body-requires c =
 pub returns-clause-settled : goal.returns-clause-settled
 returns-clause-settled c = λ d.
     let ds = definitions_view c.args.settled.now.definitions.now.entries.items in
-    let kinds = c.args.settled.now.kinds.items in
-    ap (set kinds c.args.number) (c.in_ok-kind.ensures ∙ ap (tree_kind (kind_at ds kinds)) (c.body_of-body.ensures d) ∙ sym (evaluated_is (kind_at ds kinds) (get_or ds c.args.number d).1))
+    let kinds = c.args.settled.now.kinds.of_each.items in
+    c.set.ensures ∙ ap (set kinds c.args.number) (c.in_ok-kind.ensures ∙ ap (tree_kind (kind_at ds kinds)) (c.body_of-body.ensures d) ∙ sym (evaluated_is (kind_at ds kinds) (get_or ds c.args.number d).1))

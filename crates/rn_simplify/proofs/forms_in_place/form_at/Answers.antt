@@ -25,7 +25,7 @@ returns-clause-put c = λ d.
     let ds = definitions_view c.args.definitions.now.entries.items in
     let left = definitions_view c.take-body.new.self.entries.items in
     let n = c.args.number in
-    let kinds = c.args.kinds.items in
+    let kinds = c.args.kinds.of_each.items in
     let names : map (λ (e : Text × Tree). e.0) left ≡ map (λ (e : Text × Tree). e.0) ds = ap (map (λ (e : Text × Tree). e.0)) c.take-body.ensures.left ∙ names_set ds n empty in
     let form : pattern_view c.in_ok-form.form ≡ canonical (becomes_by ds kinds) (pattern_view c.take-body.result) =
     c.in_ok-form.ensures ∙ ap (λ s. canonical s (pattern_view c.take-body.result)) (becomes_same ds left kinds names) in

@@ -9,7 +9,7 @@ use Rattle.rn_simplify.proofs.forms_in_place.form_definitions.Given as goal
 
 abbrev pub invariant-loop-number : goal.invariant-loop-number
 invariant-loop-number l = record {
-  kinds : l.kinds.items ≡ l.initial.kinds.items;
-  formed : definitions_view l.definitions.entries.items ≡ first_formed (canonical (becomes_by (definitions_view l.initial.definitions.entries.items) l.initial.kinds.items)) l.number (definitions_view l.initial.definitions.entries.items);
-  rows : rows_of l.rows ≡ rows_by (definitions_view l.initial.definitions.entries.items) (take l.number (settled_definitions (definitions_view l.initial.definitions.entries.items) l.initial.kinds.items));
+  kinds : l.kinds.of_each.items ≡ l.initial.kinds.of_each.items;
+  formed : definitions_view l.definitions.entries.items ≡ first_formed (canonical (becomes_by (definitions_view l.initial.definitions.entries.items) l.initial.kinds.of_each.items)) l.number (definitions_view l.initial.definitions.entries.items);
+  rows : rows_of l.rows ≡ rows_by (definitions_view l.initial.definitions.entries.items) (take l.number (settled_definitions (definitions_view l.initial.definitions.entries.items) l.initial.kinds.of_each.items));
 }

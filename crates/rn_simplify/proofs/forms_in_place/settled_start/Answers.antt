@@ -21,9 +21,9 @@ pub returns-clause-exact : goal.returns-clause-exact
 returns-clause-exact c =
     let s = c.in_ok-settled.settled in
     let (rank, settling) = c.in_ok-settled.ensures.exact in
-    (rank, subst (λ (ds : List (Text × Tree)). IsSettling (listed_view c.args.grammar.now) (becomes_by ds s.kinds.items) rank) c.in_ok-settled.ensures.definitions settling)
+    (rank, subst (λ (ds : List (Text × Tree)). IsSettling (listed_view c.args.grammar.now) (becomes_by ds s.kinds.of_each.items) rank) c.in_ok-settled.ensures.definitions settling)
 
 pub returns-clause-start : goal.returns-clause-start
 returns-clause-start c =
     let s = c.in_ok-settled.settled in
-    c.in_ok-form.ensures ∙ (λ i. canonical (becomes_by (c.in_ok-settled.ensures.definitions i) s.kinds.items) (c.start.ensures i))
+    c.in_ok-form.ensures ∙ (λ i. canonical (becomes_by (c.in_ok-settled.ensures.definitions i) s.kinds.of_each.items) (c.start.ensures i))

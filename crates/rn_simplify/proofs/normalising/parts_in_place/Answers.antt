@@ -22,7 +22,7 @@ form_definitions-requires-clause-firsts c =
 pub returns : goal.returns
 returns c =
     let G = listed_grammar_view c.args.grammar in
-    let kinds = c.in_ok-start.kinds.items in
+    let kinds = c.in_ok-start.kinds.of_each.items in
     let (rank, settled) = c.in_ok-start.ensures.exact in
     let settling = subst (λ (H : Grammar). IsSettling H (becomes_by H.definitions kinds) rank) c.listed.ensures settled in
     let start = subst (λ (H : Grammar). pattern_view c.in_ok-start.start ≡ canonical (becomes_by H.definitions kinds) H.start) c.listed.ensures c.in_ok-start.ensures.start in

@@ -30,7 +30,7 @@ loop-number-preserved g c =
     let old = c.loop-number.store in
     let inv = c.loop-number.invariant in
     let ds = definitions_view c.args.settled.now.definitions.now.entries.items in
-    let t = becomes_by ds c.args.settled.now.kinds.items in
+    let t = becomes_by ds c.args.settled.now.kinds.of_each.items in
     let n = c.loop-number.number in
     let name : string_bytes c.in_ok-name.name ≡ (get_or ds n nothing).0 = c.in_ok-name.ensures.cases ∙ c.name_of.ensures nothing in
     let made : pattern_view c.in_ok-form.form ≡ form.canonical t (get_or ds n nothing).1 =
@@ -44,12 +44,12 @@ loop-number-preserved g c =
 pub returns-clause-made : goal.returns-clause-made
 returns-clause-made g c =
     let ds = definitions_view c.args.settled.now.definitions.now.entries.items in
-    let t = becomes_by ds c.args.settled.now.kinds.items in
+    let t = becomes_by ds c.args.settled.now.kinds.of_each.items in
     c.loop-number.invariant.made ∙ ap (map (λ (d : Text × Tree). (d.0, form.canonical t d.1))) (take_all c.loop-number.number ds (omega (arith, size_of_view c.args.settled.now.definitions.now.entries.items)))
 
 pub returns-clause-distinct : goal.returns-clause-distinct
 returns-clause-distinct g c =
     let ds = definitions_view c.args.settled.now.definitions.now.entries.items in
-    let t = becomes_by ds c.args.settled.now.kinds.items in
+    let t = becomes_by ds c.args.settled.now.kinds.of_each.items in
     let made = c.loop-number.invariant.made ∙ ap (map (λ (d : Text × Tree). (d.0, form.canonical t d.1))) (take_all c.loop-number.number ds (omega (arith, size_of_view c.args.settled.now.definitions.now.entries.items))) in
     subst (IsDistinct bytes_eq) (sym (ap (map (λ (d : Text × Tree). d.0)) made ∙ names_formed t ds)) c.args.settled.now.definitions.now.distinct

@@ -40,7 +40,7 @@ form_of-returns-in_ok-list_form-in-Choice t c =
 pub list_form-returns : goal.list_form-returns
 list_form-returns t c =
     let ds = definitions_view c.args.settled.now.definitions.now.entries.items in
-    let kinds = c.args.settled.now.kinds.items in
+    let kinds = c.args.settled.now.kinds.of_each.items in
     let s = becomes_by ds kinds in
     let kind = c.args.kind in
     let ps = shared_trees c.args.members.now in
