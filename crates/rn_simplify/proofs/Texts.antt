@@ -10,5 +10,6 @@ pub mod FinishedText
 pub mod OpenAtOnce
 pub mod Members
 pub mod GatheredTexts
+pub mod GatheredForms
 pub mod MovedDefinitions
 pub mod Views

@@ -11,11 +11,13 @@ ghost use Rattle.rn_pattern.specs.View.{pattern_view};
 ghost use Rattle.rn_simplify.specs.Settling.{IsSettling};
 ghost use Rattle.rn_simplify.specs.inside.DefinitionNumbers.{reference_numbers, rows_by};
 ghost use Rattle.rn_simplify.specs.inside.FormKinds.{becomes_by, settled_definitions};
+ghost use Rattle.rn_simplify.specs.inside.Gathers.{Gathers, by_definitions};
 
 use crate::body_forms::{body_form, owned_body_form};
 use crate::definition_kinds::DefinitionKinds;
 use crate::definition_numbers::Likely;
 use crate::evaluation::settle_all;
+use crate::mentions::Mentions;
 use crate::reference_numbers::referred_numbers;
 use crate::settled_definitions::SettledDefinitions;
 use rn_assemble::{DefinitionList, LikelyReferences, Listed};
@@ -43,7 +45,7 @@ pub(crate) fn settled_start(
 }
 
 /// Puts the form of each definition in the place of its body, out of which it is made. Answers the definitions that each
-/// form refers to, which are found as soon as it is made.
+/// form refers to, and adds to the mentions what it mentions: both are found as soon as it is made.
 pub(crate) fn form_definitions(
     alloc: Global,
     definitions: &mut DefinitionList,
@@ -51,6 +53,7 @@ pub(crate) fn form_definitions(
     seed: &Seed,
     mut kinds: DefinitionKinds,
     firsts: &[Vec<u32>],
+    mentions: &mut Mentions,
 ) -> Result<Rows, AllocError>
     requires sized { length kinds.of_each.items ≡ length definitions.old.entries.items }
     requires firsts { HaveFirsts firsts.now (definitions_view definitions.old.entries.items) }
@@ -59,6 +62,9 @@ pub(crate) fn form_definitions(
     ensures rows { IfOk result (λ rows. rows_of rows
         ≡ rows_by (definitions_view definitions.new.entries.items)
         (definitions_view definitions.new.entries.items)) }
+    ensures mentions { OnOk result (Gathers
+        (by_definitions (definitions_view definitions.new.entries.items))
+        mentions.old mentions.new) }
 {
     let mut rows = Rows::with_capacity(alloc, definitions.len())?;
     let mut row = Vec::new(alloc);
@@ -73,6 +79,7 @@ pub(crate) fn form_definitions(
             number,
             first_members,
         )?;
+        mentions.add_pattern(alloc, definitions.body_of(number))?;
         push_references(definitions, likely, number, &mut row, &mut rows)?;
     }
     Ok(rows)

@@ -20,6 +20,22 @@ pub(crate) struct Mentions {
 }
 
 impl Mentions {
+    /// What a start mentions.
+    pub(crate) fn of_start(alloc: Global, start: &Pattern) -> Result<Mentions, AllocError>
+        ensures { IfOk result (λ m. mentions_view m ≡ gathered (record {
+          start = pattern_view start.now;
+          definitions = [];
+        })) }
+    {
+        let mut mentions = Mentions {
+            namespaces: BTreeSet::new(alloc),
+            libraries: BTreeSet::new(alloc),
+            has_empty_ns_name: false,
+        };
+        mentions.add_pattern(alloc, start)?;
+        Ok(mentions)
+    }
+
     /// What a start and definitions mention.
     pub(crate) fn of(
         alloc: Global,
@@ -31,12 +47,7 @@ impl Mentions {
           definitions = definitions_view defs.now;
         })) }
     {
-        let mut mentions = Mentions {
-            namespaces: BTreeSet::new(alloc),
-            libraries: BTreeSet::new(alloc),
-            has_empty_ns_name: false,
-        };
-        mentions.add_pattern(alloc, start)?;
+        let mut mentions = Mentions::of_start(alloc, start)?;
         mentions.add_definitions(alloc, defs)?;
         Ok(mentions)
     }
@@ -56,7 +67,7 @@ impl Mentions {
     }
 
     #[cycle(add_pattern)]
-    fn add_pattern(&mut self, alloc: Global, pattern: &Pattern) -> Result<(), AllocError>
+    pub(crate) fn add_pattern(&mut self, alloc: Global, pattern: &Pattern) -> Result<(), AllocError>
         ensures { OnOk result (Gathers (by_tree (pattern_view pattern.now)) self.old self.new) }
     {
         match pattern {

@@ -173,8 +173,24 @@ fn parts_in_place(alloc: Global, grammar: ListedGrammar) -> Result<NormalParts, 
         seed,
         ..
     } = grammar.into_parts();
-    let rows = form_definitions(alloc, &mut definitions, &likely, &seed, kinds, &firsts)?;
-    let Pruned { defs, mentions } = prune_list(alloc, &likely, &start, definitions, &rows)?;
+    let mut mentions = Mentions::of_start(alloc, &start)?;
+    let rows = form_definitions(
+        alloc,
+        &mut definitions,
+        &likely,
+        &seed,
+        kinds,
+        &firsts,
+        &mut mentions,
+    )?;
+    let Pruned { defs, mentions } = prune_list(
+        alloc,
+        &likely,
+        &start,
+        definitions,
+        &rows,
+        mentions,
+    )?;
     Ok(NormalParts {
         start,
         defs,

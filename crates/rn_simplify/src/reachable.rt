@@ -1,12 +1,14 @@
 // The definitions that are reached through canonical forms (RELAX NG 2001, 4.19).
-ghost use Rattle.std.specs.Prelude.{◌≡◌, IfOk, drop, length, map, bytes_eq};
-ghost use Rattle.std.specs.List.{IsDistinct};
+ghost use Rattle.std.specs.Prelude.{◌≡◌, IfOk, IsPermutation, OnOk, drop, length, map, bytes_eq};
+ghost use Rattle.std.specs.List.{IsDistinct, list_all};
+ghost use Rattle.std.specs.List.Sorted.{IsStrictlySortedBy};
 ghost use Rattle.std.specs.Slice.Iter.{iter_rest};
 ghost use Rattle.rn_pattern.specs.Graph.{is_marked, rows_of};
 ghost use Rattle.rn_assemble.specs.GrammarView.{definitions_view};
 ghost use Rattle.rn_pattern.specs.Reached.{IsPruned};
 ghost use Rattle.rn_pattern.specs.Tree.{Tree};
 ghost use Rattle.rn_pattern.specs.View.{pattern_view};
+ghost use Rattle.rn_text.specs.Texts.{text_cmp};
 ghost use Rattle.rn_simplify.specs.inside.Gathers.{gathered, mentions_view};
 ghost use Rattle.rn_simplify.specs.inside.MarkedElements.{marked_elements};
 ghost use Rattle.rn_simplify.specs.inside.DefinitionNumbers.{MarksReached, reference_numbers, rows_by};
@@ -49,16 +51,21 @@ pub(crate) fn prune_forms(
 }
 
 /// The forms in the list that the start reaches, in the order of their names. The definitions that each form refers to
-/// are given.
+/// are given, and what the start and all forms mention.
 pub(crate) fn prune_list(
     alloc: Global,
     likely: &LikelyReferences,
     start: &Pattern,
     definitions: DefinitionList,
     rows: &Rows,
+    mentions: Mentions,
 ) -> Result<Pruned, AllocError>
-    requires { rows_of rows.now ≡ rows_by (definitions_view definitions.entries.items)
+    requires rows { rows_of rows.now ≡ rows_by (definitions_view definitions.entries.items)
         (definitions_view definitions.entries.items) }
+    requires known { mentions_view mentions ≡ gathered (record {
+      start = pattern_view start.now;
+      definitions = definitions_view definitions.entries.items;
+    }) }
     ensures pruned { IfOk result (λ r. IsPruned
         (record {
           start = pattern_view start.now;
@@ -69,7 +76,49 @@ pub(crate) fn prune_list(
         (record { start = pattern_view start.now; definitions = definitions_view r.defs.items })) }
 {
     let is_reached = reached_in_list(alloc, likely, start, &definitions, rows)?;
-    sorted_marked(alloc, start, definitions.into_entries(), &is_reached)
+    sorted_if_marked(
+        alloc,
+        start,
+        definitions.into_entries(),
+        &is_reached,
+        mentions,
+    )
+}
+
+/// The forms that are marked, in the order of their names. What the start and all forms mention is given, and is
+/// gathered anew only where a form isn't marked.
+fn sorted_if_marked(
+    alloc: Global,
+    start: &Pattern,
+    mut forms: Vec<(String, Pattern)>,
+    marks: &[bool],
+    mentions: Mentions,
+) -> Result<Pruned, AllocError>
+    requires sized { length marks.now ≡ length forms.items }
+    requires distinct { IsDistinct bytes_eq (map (λ d. d.0) (definitions_view forms.items)) }
+    requires known { mentions_view mentions ≡ gathered
+        (record { start = pattern_view start.now; definitions = definitions_view forms.items }) }
+    ensures pruned { IfOk result (λ r. (p : Tree)
+        → MarksReached (record { start = p; definitions = definitions_view forms.items }) marks.now
+        → IsPruned (record { start = p; definitions = definitions_view forms.items })
+        (record { start = p; definitions = definitions_view r.defs.items })) }
+    ensures known { IfOk result (λ r. mentions_view r.mentions ≡ gathered
+        (record { start = pattern_view start.now; definitions = definitions_view r.defs.items })) }
+{
+    if !are_all_marked(marks) {
+        return sorted_marked(alloc, start, forms, marks);
+    }
+    sort_by_name(&mut forms)?;
+    Ok(Pruned {
+        defs: forms,
+        mentions,
+    })
+}
+
+fn are_all_marked(marks: &[bool]) -> bool
+    ensures { result ≡ list_all (λ mark. mark) marks.now }
+{
+    marks.iter().all(|mark| *mark)
 }
 
 /// The forms that are marked, in the order of their names. What they mention is gathered while they stand as they came.
@@ -89,11 +138,21 @@ fn sorted_marked(
 {
     keep_marked(&mut forms, marks);
     let mentions = Mentions::of(alloc, start, &forms)?;
-    forms.sort_by(|a: &(String, Pattern), b: &(String, Pattern)| a.0.cmp(&b.0))?;
+    sort_by_name(&mut forms)?;
     Ok(Pruned {
         defs: forms,
         mentions,
     })
+}
+
+/// Puts forms whose names differ in the order of their names.
+fn sort_by_name(forms: &mut Vec<(String, Pattern)>) -> Result<(), AllocError>
+    ensures moved { IsPermutation forms.old.items forms.new.items }
+    ensures rising { OnOk result
+        (IsDistinct bytes_eq (map (λ d. d.0) (definitions_view forms.new.items))
+        → IsStrictlySortedBy text_cmp (map (λ d. d.0) (definitions_view forms.new.items))) }
+{
+    forms.sort_by(|a: &(String, Pattern), b: &(String, Pattern)| a.0.cmp(&b.0))
 }
 
 /// For each form in the list, whether the start reaches it.
@@ -106,7 +165,9 @@ fn reached_in_list(
 ) -> Result<Vec<bool>, AllocError>
     requires { rows_of rows.now ≡ rows_by (definitions_view definitions.now.entries.items)
         (definitions_view definitions.now.entries.items) }
-    ensures { IfOk result
+    ensures size { IfOk result (λ marks. length marks.items
+        ≡ length definitions.now.entries.items) }
+    ensures reached { IfOk result
         (λ marks. MarksReached (record {
           start = pattern_view start.now;
           definitions = definitions_view definitions.now.entries.items;

@@ -110,11 +110,16 @@ module _ (form : Tree → Tree) (ds : List (Text × Tree)) where
   abbrev formed : List (Text × Tree)
   formed = map (λ (d : Text × Tree). (d.0, form d.1)) ds
 
+  -- the form of the one with the number n stands there
+  pub form_there : (n : ℕ) (es : List (Text × Tree)) → n < length ds → es ≡ first_formed form (n + 1) ds → get_or es n nothing ≡ get_or formed n nothing
+  form_there n es l is =
+      let next : n + 1 ≡ suc n = omega arith in
+      ap (λ fs. get_or fs n nothing) (is ∙ ap (λ m. first_formed form m ds) next) ∙ form_first form n ds l
+
   pub rows_formed_more : (n : ℕ) (es : List (Text × Tree)) (old new : List (List ℕ)) → n < length ds → es ≡ first_formed form (n + 1) ds → old ≡ rows_by ds (take n formed)
       → new ≡ old ++ numbers_of es (references (get_or es n nothing).1) ∷ [] → new ≡ rows_by ds (take (n + 1) formed)
   rows_formed_more n es old new l is before more =
-      let next : n + 1 ≡ suc n = omega arith in
-      let here : get_or es n nothing ≡ get_or formed n nothing = ap (λ fs. get_or fs n nothing) (is ∙ ap (λ m. first_formed form m ds) next) ∙ form_first form n ds l in
+      let here : get_or es n nothing ≡ get_or formed n nothing = form_there n es l is in
       let names : map (λ (d : Text × Tree). d.0) es ≡ map (λ (d : Text × Tree). d.0) ds = ap (map (λ (d : Text × Tree). d.0)) is ∙ names_first form (n + 1) ds in
       let numbers : numbers_of es (references (get_or es n nothing).1) ≡ numbers_of ds (references (get_or formed n nothing).1) =
       numbers_alike ds es (references (get_or es n nothing).1) names ∙ ap (λ (d : Text × Tree). numbers_of ds (references d.1)) here in

@@ -10,6 +10,7 @@ use Rattle.rn_assemble.specs.ListedView.{definitions_view, listed_grammar_view}
 use Rattle.rn_simplify.specs.Settling.{IsSettling}
 use Rattle.rn_simplify.specs.inside.FormKinds.{becomes_by}
 use Rattle.rn_simplify.proofs.Simplified.CanonicalParts.{canonical_of}
+use Rattle.rn_simplify.proofs.Texts.GatheredForms.{gathered_with}
 use Rattle.rn_simplify.proofs.normalising.parts_in_place.Goals as goal
 
 pub form_definitions-requires-clause-firsts : goal.form_definitions-requires-clause-firsts
@@ -18,6 +19,9 @@ form_definitions-requires-clause-firsts c =
     let firsts : HaveFirsts c.deref.result.now (listed_grammar_view c.args.grammar).definitions =
     subst (λ (fs : List (Vec ℕ Global)). HaveFirsts fs (listed_grammar_view c.args.grammar).definitions) (sym c.deref.ensures.value) parts.ensures.firsts in
     subst (λ (ds : List (Text × Tree)). HaveFirsts c.deref.result.now ds) (sym parts.ensures.definitions) firsts
+
+pub prune_list-requires-clause-known : goal.prune_list-requires-clause-known
+prune_list-requires-clause-known c = gathered_with (pattern_view c.in_ok-start.start) (definitions_view c.form_definitions.new.definitions.entries.items) c.in_ok-mentions.mentions c.form_definitions.new.mentions c.in_ok-mentions.ensures c.in_ok-rows.ensures.mentions
 
 pub returns : goal.returns
 returns c =
