@@ -58,7 +58,8 @@ pub(crate) fn form_definitions(
     requires sized { length kinds.of_each.items ≡ length definitions.old.entries.items }
     requires firsts { HaveFirsts firsts.now (definitions_view definitions.old.entries.items) }
     ensures formed { IfOk result (λ _. definitions_view definitions.new.entries.items
-        ≡ settled_definitions (definitions_view definitions.old.entries.items) kinds.of_each.items) }
+        ≡ settled_definitions (definitions_view definitions.old.entries.items)
+        kinds.of_each.items) }
     ensures rows { IfOk result (λ rows. rows_of rows
         ≡ rows_by (definitions_view definitions.new.entries.items)
         (definitions_view definitions.new.entries.items)) }
