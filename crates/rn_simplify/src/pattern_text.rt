@@ -79,12 +79,15 @@ fn write_in_braces(writer: &mut Writer, prefixes: &Prefixes, content: &Pattern)
     writer.close_bracket(" }");
 }
 
-/// Writes a pattern between `,`, `&` or `|`.
+/// Writes a pattern between `,`, `&` or `|`. Where nothing more is written it isn't looked at.
 #[cycle(pattern)]
 fn write_operand(writer: &mut Writer, prefixes: &Prefixes, pattern: &Pattern)
     ensures { Writes (operand (written_tree (prefixes_view prefixes.now)
         (pattern_view pattern.now))) writer.old writer.new }
 {
+    if writer.stopped.is_some() {
+        return;
+    }
     match shape_of_pattern(pattern) {
         Shape::Chained => write_in_parentheses(writer, prefixes, pattern),
         _ => write_pattern(writer, prefixes, pattern),

@@ -1,10 +1,10 @@
 // The text of a canonical grammar (compact syntax, section 2, topLevel).
-ghost use Rattle.std.specs.Prelude.{string_bytes, codes, IfOk, IfErr};
+ghost use Rattle.std.specs.Prelude.{chars, string_bytes, codes, IfOk, IfErr};
 ghost use Rattle.rn_pattern.specs.View.{pattern_view};
 ghost use Rattle.rn_assemble.specs.Renamed.{IsOfKnownUris};
 ghost use Rattle.rn_assemble.specs.ShortTexts.{IsKnown, IsTable, long_grammar, short_texts};
 ghost use Rattle.rn_simplify.specs.NormalView.{definitions_view, normal_view};
-ghost use Rattle.rn_simplify.specs.Spelling.{definition_line, definition_lines, keyword, defined_as};
+ghost use Rattle.rn_simplify.specs.Spelling.{definition_line, definition_lines, identifier, keyword, defined_as};
 ghost use Rattle.rn_simplify.specs.Printing.{IsPrinted, IsUnprinted};
 ghost use Rattle.rn_simplify.specs.ReadBack.{IsReadBack};
 ghost use Rattle.rn_simplify.specs.inside.Writes.{prefixes_view, Writes};
@@ -63,9 +63,21 @@ fn write_definitions(writer: &mut Writer, prefixes: &Prefixes, defs: &[(String, 
         (definitions_view defs.now)) writer.old writer.new }
 {
     for (name, body) in defs {
-        writer.put_identifier(name);
-        write_body(writer, prefixes, body);
+        write_definition(writer, prefixes, name, body);
     }
+}
+
+/// Writes the line of a definition. Where nothing more is written its body isn't looked at.
+#[inline(always)]
+fn write_definition(writer: &mut Writer, prefixes: &Prefixes, name: &str, body: &Pattern)
+    ensures { Writes (definition_line (prefixes_view prefixes.now) (identifier (chars name.now))
+        (pattern_view body.now)) writer.old writer.new }
+{
+    if writer.stopped.is_some() {
+        return;
+    }
+    writer.put_identifier(name);
+    write_body(writer, prefixes, body);
 }
 
 /// Writes what a name is defined as, and the end of the line.
