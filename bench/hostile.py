@@ -4,7 +4,7 @@
 bench/hostile.py SHAPE [twin] > BUNDLE: SHAPE is one of the functions named at the end, each of which says what it aims at. A twin has the same
 kind and size, and nothing in it is aimed. `rnc-merge print` of both is to take about the same time and memory.
 bench/hostile.py --run PROGRAM [--old PROGRAM] [--rounds N]: a table of all shapes beside their twins, and of two that have none, with medians of the
-rounds (5). Where a run takes more than 20 s, one is enough. Each run may have 8 GB.
+rounds (5). The old program runs once, and where any run takes more than 20 s, one is enough. Each run may have 8 GB.
 """
 import argparse
 import os
@@ -147,13 +147,15 @@ MEMORY = 8 << 30
 
 
 def measured(found, room, count):
-    """The size of each shape's bundle, and how all programs did on it and on its twin."""
+    """The size of each shape's bundle, and how the new program did on it and on its twin, and the old one, once, on it."""
     for shape in SHAPES.values():
         paths = {kind: f"{room}/{kind}" for kind in ("hostile", "twin")}
         size = made(paths["hostile"], lambda: bundle(shape(False)))
         made(paths["twin"], lambda: bundle(shape(True)))
-        commands = {(name, kind): ([program], path, MEMORY) for name, program in found.items() for kind, path in paths.items()}
-        yield shape, size, measuring.rounds(commands, count)
+        got = measuring.rounds({("new", kind): ([found["new"]], path, MEMORY) for kind, path in paths.items()}, count)
+        if "old" in found:
+            got |= measuring.rounds({("old", "hostile"): ([found["old"]], paths["hostile"], MEMORY)}, 1)
+        yield shape, size, got
 
 
 def show(found, count):
