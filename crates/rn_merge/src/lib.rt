@@ -17,6 +17,6 @@ pub use run::{RunFault, Status, print_last, print_set, read_bundles, run_print};
 pub use streams::{
     Failed, Input, MAX_INPUT, Output, ReadFault, Sink, Source, read_input, write_output,
 };
-pub use text_faults::{Place, check};
+pub use text_faults::{Place, check, check_last};
 pub use verdict::merge;
 pub use words::{Job, ProgramFault, STANDARD_INPUT, copies, plan};

@@ -4,8 +4,8 @@ ghost use Rattle.rnc_merge.specs.Jobs.{LeavesSink};
 
 use crate::inputs::{read_file, read_files};
 use rn_merge::{
-    Job, ProgramFault, Sink, Status, check, keep_large_lists, list_line, print_last, read_bundles,
-    write_output,
+    Job, ProgramFault, Sink, Status, check_last, keep_large_lists, list_line, print_last,
+    read_bundles, write_output,
 };
 use rn_modset::{Contribution, ModuleSet, write_bundle};
 use std::alloc::Global;
@@ -48,7 +48,7 @@ pub fn perform<W: Sink>(rt: &HostRuntime, job: Job, out: &mut W) -> Result<(), P
         }
         Job::Check { file } => {
             let text = read_file(rt, 0, file.as_str())?;
-            check(rt.alloc(), text.as_slice()).map_err(ProgramFault::Check)
+            check_last(rt.alloc(), text.as_slice()).map_err(ProgramFault::Check)
         }
     }
 }
