@@ -133,6 +133,10 @@ impl Pattern {
     pub fn cmp(&self, other: &Pattern) -> Ordering
         ensures { result ≡ tree_cmp (pattern_view self.now) (pattern_view other.now) }
     {
+        let kinds = self.rank().cmp(&other.rank());
+        if kinds != Ordering::Equal {
+            return kinds;
+        }
         match compare_heads(self.heads(), other.heads()) {
             Ordering::Equal => {}
             order => return order,

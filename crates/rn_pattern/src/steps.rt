@@ -1,6 +1,6 @@
 //! The canonical form of a pattern over parts that are canonical, one step at a time (RELAX NG 2001, 4.20 and 4.21).
 //! Nothing is refused but for want of memory.
-ghost use Rattle.std.specs.Prelude.{◌≡◌, IfOk, IsTrue, flat_map, map, string_bytes};
+ghost use Rattle.std.specs.Prelude.{◌≡◌, IfOk, IsTrue, flat_map, length, map, string_bytes};
 ghost use Rattle.std.specs.Option.{option_map};
 ghost use Rattle.std.specs.Rc.{rc_str_bytes};
 ghost use Rattle.rn_pattern.specs.Canonical.{attribute_step, canonical_name, choice_step, group_step, has_not_allowed, interleave_step, is_not_allowed, list_step, one_or_more_step, sorted, sorted_once};
@@ -223,9 +223,26 @@ fn sort_without_repeats(mut members: Vec<Rc<Pattern>>) -> Result<Vec<Rc<Pattern>
     ensures { IfOk result (λ v. map shared_view v.items
         ≡ sorted_once tree_cmp (map shared_view members.items)) }
 {
+    if members.len() == 2 {
+        return Ok(sort_two(members));
+    }
     members.sort_by(|p, q| p.cmp(q))?;
     members.dedup_by(|p, q| p.cmp(q) == Ordering::Equal);
     Ok(members)
+}
+
+/// Two members in order; one of them where they are the same.
+fn sort_two(mut members: Vec<Rc<Pattern>>) -> Vec<Rc<Pattern>>
+    requires { length members.items ≡ 2 }
+    ensures { map shared_view result.items
+        ≡ sorted_once tree_cmp (map shared_view members.items) }
+{
+    match members[0].cmp(&members[1]) {
+        Ordering::Less => {}
+        Ordering::Equal => members.truncate(1),
+        Ordering::Greater => members.swap(0, 1),
+    }
+    members
 }
 
 /// A list of the members; the member itself if there is one, and what an empty list stands for if there is none.

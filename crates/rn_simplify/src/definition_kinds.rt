@@ -17,7 +17,8 @@ pub(crate) struct DefinitionKinds {
 impl DefinitionKinds {
     /// The kinds of so many definitions, to all of which references stay.
     pub(crate) fn all_other(alloc: Global, count: usize) -> Result<DefinitionKinds, AllocError>
-        ensures { IfOk result (λ kinds. length kinds.of_each.items ≡ count) }
+        ensures count { IfOk result (λ kinds. length kinds.of_each.items ≡ count) }
+        ensures stay { IfOk result (λ kinds. AllStay kinds.of_each.items) }
     {
         let of_each = vec![in alloc; FormKind::Other; count]?;
         Ok(DefinitionKinds {

@@ -196,6 +196,23 @@ fn are_parts(kind: ListKind, members: &[Rc<Pattern>]) -> bool
     true
 }
 
+/// Whether the pattern is its own canonical form, as is seen without a look at what it holds.
+#[inline(always)]
+fn stays_itself(settled: &SettledDefinitions<'_>, pattern: &Pattern) -> bool
+    ensures { IsTrue result
+        → settled_form settled.now (pattern_view pattern.now) ≡ pattern_view pattern.now }
+{
+    match pattern {
+        Pattern::NotAllowed
+        | Pattern::Empty
+        | Pattern::Text
+        | Pattern::Value(_)
+        | Pattern::Datum(_, None) => true,
+        Pattern::Ref(_) => settled.kinds.all_stay(),
+        _ => false,
+    }
+}
+
 /// Puts the canonical form of a member in its place. A member that nothing else shares keeps its cell.
 #[cycle(owned_form)]
 fn form_member(
@@ -207,6 +224,9 @@ fn form_member(
     ensures { OnOk result (shared_view member.new
         ≡ settled_form settled.now (shared_view member.old)) }
 {
+    if stays_itself(settled, member) {
+        return Ok(());
+    }
     match Rc::get_mut(member) {
         Some(pattern) => {
             let given_up = mem::replace(pattern, Pattern::Empty);

@@ -115,6 +115,7 @@ fn sorted_if_marked(
     })
 }
 
+/// Whether every mark is set.
 fn are_all_marked(marks: &[bool]) -> bool
     ensures { result ≡ list_all (λ mark. mark) marks.now }
 {

@@ -11,7 +11,7 @@ use Rattle.rn_simplify.proofs.Simplified.SettledMore.{settled_more, settled_none
 use Rattle.rn_simplify.proofs.evaluation.settle.Goals as goal
 
 pub invariant_of-settled : goal.invariant_of-settled
-invariant_of-settled c = record { sized = c.in_ok-kinds.ensures ∙ c.len.ensures }
+invariant_of-settled c = record { sized = c.in_ok-kinds.ensures.count ∙ c.len.ensures }
 
 pub settle_definition-requires-clause-within : goal.settle_definition-requires-clause-within
 settle_definition-requires-clause-within c =
