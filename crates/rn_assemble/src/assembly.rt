@@ -90,7 +90,7 @@ pub fn assemble_short(alloc: Global, set: &ModuleSet) -> Result<ShortGrammar, Re
 {
     let ShortCombined { combined, uris } = combine_short(alloc, set)?;
     let seed = seed_of(set);
-    let grammar = listed_grammar(combined, &seed);
+    let grammar = listed_grammar(alloc, combined, &seed)?;
     Ok(ShortGrammar { grammar, uris })
 }
 

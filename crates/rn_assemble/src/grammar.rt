@@ -149,7 +149,7 @@ fn copy_of(alloc: Global, definitions: &Definitions) -> Result<DefinitionList, A
         let body = body_of(definitions, number).try_clone(alloc)?;
         entries.push((name, body))?;
     }
-    Ok(DefinitionList { entries })
+    DefinitionList::new(alloc, entries)
 }
 
 /// The name of the definition with a number.
@@ -178,5 +178,5 @@ fn list_of(alloc: Global, definitions: Definitions) -> Result<DefinitionList, Al
 {
     let mut entries = Vec::with_capacity(alloc, definitions.len())?;
     entries.extend(definitions.into_iter())?;
-    Ok(DefinitionList { entries })
+    DefinitionList::new(alloc, entries)
 }

@@ -74,11 +74,15 @@ fn define(defs: &mut Definitions, name: String, body: Pattern) -> Result<(), All
 }
 
 /// The listed grammar of combined patterns, with a seed for what is hashed.
-pub(crate) fn listed_grammar(combined: Combined, seed: &Seed) -> ListedGrammar
+pub(crate) fn listed_grammar(
+    alloc: Global,
+    combined: Combined,
+    seed: &Seed,
+) -> Result<ListedGrammar, AllocError>
     requires distinct { AreDistinct (combined_view combined).definitions }
     requires well_formed { IsWellFormed (combined_view combined) }
     requires writable { ∥ HasWritableTexts (combined_view combined) ∥₁ }
-    ensures { listed_grammar_view result ≡ combined_view combined }
+    ensures { IfOk result (λ g. listed_grammar_view g ≡ combined_view combined) }
 {
     let Combined {
         start,
@@ -87,20 +91,21 @@ pub(crate) fn listed_grammar(combined: Combined, seed: &Seed) -> ListedGrammar
         firsts,
         order,
     } = combined;
-    ListedGrammar {
+    let definitions = list_of(alloc, definitions)?;
+    Ok(ListedGrammar {
         start,
-        definitions: list_of(definitions),
+        definitions,
         start_firsts,
         firsts,
         order,
         seed: *seed,
-    }
+    })
 }
 
 /// The definitions in a list, in the order of the combined patterns.
-fn list_of(entries: Vec<(String, Pattern)>) -> DefinitionList
+fn list_of(alloc: Global, entries: Vec<(String, Pattern)>) -> Result<DefinitionList, AllocError>
     requires { AreDistinct (definitions_view entries.items) }
-    ensures { result.entries.items ≡ entries.items }
+    ensures { IfOk result (λ list. list.entries.items ≡ entries.items) }
 {
-    DefinitionList { entries }
+    DefinitionList::new(alloc, entries)
 }

@@ -1,5 +1,5 @@
 // The number of a definition by its name, and where to look for it first.
-ghost use Rattle.std.specs.Prelude.{◌≡◌, ◌<◌, IfSome, IsTrue, Some, length};
+ghost use Rattle.std.specs.Prelude.{◌≡◌, ◌<◌, IfSome, Some, length};
 ghost use Rattle.rn_assemble.specs.GrammarView.{definitions_view};
 ghost use Rattle.rn_simplify.specs.inside.DefinitionNumbers.{number_of};
 
@@ -115,7 +115,7 @@ fn find_elsewhere(definitions: &DefinitionList, likely: &Likely<'_>, name: &str)
     if likely.numbers.len() <= FEW_NUMBERS {
         return find_among(definitions, likely.numbers, name);
     }
-    if is_named(definitions, likely.behind, name) {
+    if definitions.is_named(likely.behind, name) {
         return Some(likely.behind);
     }
     None
@@ -128,7 +128,7 @@ fn find_next(definitions: &DefinitionList, likely: &mut Likely<'_>, name: &str) 
         (λ k. number_of (definitions_view definitions.now.entries.items) name.now ≡ Some k) }
 {
     let number = *likely.numbers.get(likely.next)? as usize;
-    if !is_named(definitions, number, name) {
+    if !definitions.is_named(number, name) {
         return None;
     }
     likely.next += 1;
@@ -142,7 +142,7 @@ fn find_among(definitions: &DefinitionList, numbers: &[u32], name: &str) -> Opti
 {
     for number in numbers {
         let number = *number as usize;
-        if is_named(definitions, number, name) {
+        if definitions.is_named(number, name) {
             return Some(number);
         }
     }
@@ -157,7 +157,7 @@ fn find_in_order(definitions: &DefinitionList, by_name: &[u32], name: &str) -> O
 {
     let at = by_name.partition_point(|number| is_before(definitions, *number as usize, name));
     let number = *by_name.get(at)? as usize;
-    if is_named(definitions, number, name) {
+    if definitions.is_named(number, name) {
         Some(number)
     } else {
         None
@@ -167,16 +167,4 @@ fn find_in_order(definitions: &DefinitionList, by_name: &[u32], name: &str) -> O
 /// Whether there is a definition with the number, and its name comes before this one.
 fn is_before(definitions: &DefinitionList, number: usize, name: &str) -> bool {
     number < definitions.len() && definitions.name_of(number).as_str() < name
-}
-
-/// Whether there is a definition with the number, and it has the name.
-#[inline(always)]
-fn is_named(definitions: &DefinitionList, number: usize, name: &str) -> bool
-    ensures { IsTrue result
-        → number_of (definitions_view definitions.now.entries.items) name.now ≡ Some number }
-{
-    if number >= definitions.len() {
-        return false;
-    }
-    definitions.name_of(number).as_str() == name
 }

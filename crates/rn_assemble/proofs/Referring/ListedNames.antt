@@ -1,14 +1,17 @@
 -- The names of listed definitions: where each has one definition, the place of a definition is its name's number.
-use Rattle.std.proofs.Common.{◌≡◌, ◌+◌, ◌<◌, ℕ, zero, suc, Bool, true, false, cond, not, nat_lt, List, [], ◌∷◌, ◌++◌, length, map, take, get_or, set, Some, None, refl, sym, ap, ◌∙◌, subst, arith, lt-ltb}
-use Rattle.std.specs.Prelude.{bytes_eq, String, string_bytes}
+use Rattle.std.proofs.Common.{◌≡◌, ◌↔◌, ◌+◌, ◌<◌, ℕ, zero, suc, Bool, true, false, cond, not, nat_lt, List, [], ◌∷◌, ◌++◌, length, map, take, get_or, set, Option, Some, None, refl, sym, ap, ◌∙◌, subst, arith, lt-ltb}
+use Rattle.std.specs.Prelude.{IsTrue, bytes_eq, position, slice_get, String, string_bytes}
 use Rattle.std.specs.declared.alloc.Global.{Global}
 use Rattle.std.specs.List.{AllByRecursion, IsDistinct, prefix_len}
+use Rattle.std.specs.Option.{option_map_or}
 use Rattle.std.specs.String.{string_eq}
 use Rattle.std.specs.Cmp.Lexicographic.{bytes_decides}
 use Rattle.indexmap.specs.IndexMap.{set_value_at}
 use Rattle.std.proofs.lemmas.Bool.{false≢true, le-ltb, ltb-false, ltb-true}
 use Rattle.std.proofs.lemmas.List.{get_or-map, length-map, map-append, take_more}
+use Rattle.std.proofs.lemmas.List.Quantifiers.{position-Some}
 use Rattle.std.proofs.lemmas.Map.Keys.{IsDistinct-tail, apart_from_distinct}
+use Rattle.std.proofs.lemmas.Option.{get_or_from_slice_get, slice_get-get_or, slice_get_within}
 use Rattle.rn_pattern.specs.Tree.{Tree}
 use Rattle.rn_pattern.specs.View.{pattern_view}
 use Rattle.rn_pattern.specs.declared.tree.Pattern.{Pattern}
@@ -30,12 +33,27 @@ front_of x (y ∷ ys) (suc k) d l e =
     let behind : 1 + prefix_len (λ z. not (bytes_eq x z)) ys ≡ suc k = omega (arith, front_of x ys k (IsDistinct-tail bytes_eq y ys d) (omega (arith, l)) e) in
     ap (λ b. cond (not b) (1 + prefix_len (λ z. not (bytes_eq x z)) ys) 0) (apart (bytes_eq x y) x y refl other) ∙ behind
 
+place_of_name : (ns : List Text) (x : Text) (k : ℕ) → IsDistinct bytes_eq ns → k < length ns → get_or ns k [] ≡ x → position (bytes_eq x) ns ≡ Some k
+place_of_name ns x k d l e =
+    subst (λ j. cond (nat_lt j (length ns)) (Some j) None ≡ Some k) (sym (front_of x ns k d l e)) (ap (λ b. cond b (Some k) None) (lt-ltb k (length ns) l))
+
 pub number_by_place : (ds : List (Text × Tree)) (x : Text) (k : ℕ) → IsDistinct bytes_eq (map (λ (d : Text × Tree). d.0) ds) → k < length ds → (get_or ds k nothing).0 ≡ x → number_of ds x ≡ Some k
 number_by_place ds x k d l e =
-    let ns = map (λ (d : Text × Tree). d.0) ds in
-    let within : k < length ns = omega (arith, l, length-map ds (λ (d : Text × Tree). d.0)) in
-    let n : prefix_len (λ y. not (bytes_eq x y)) ns ≡ k = front_of x ns k d within (get_or-map (λ (d : Text × Tree). d.0) ds k nothing [] l ∙ e) in
-    subst (λ j. cond (nat_lt j (length ns)) (Some j) None ≡ Some k) (sym n) (ap (λ b. cond b (Some k) None) (lt-ltb k (length ns) within))
+    place_of_name (map (λ (d : Text × Tree). d.0) ds) x k d (omega (arith, l, length-map ds (λ (d : Text × Tree). d.0)))
+    (get_or-map (λ (d : Text × Tree). d.0) ds k nothing [] l ∙ e)
+
+-- a name is the one at a place exactly if that is its place
+same_at : (x : Text) (o : Option Text) → option_map_or (bytes_eq x) o false ≡ true → o ≡ Some x
+same_at x None e = absurd (false≢true e)
+same_at x (Some y) e = ap (λ z. Some z) (sym ((bytes_decides x y).0 e))
+
+pub named_at : (ns : List Text) (x : Text) (k : ℕ) → IsDistinct bytes_eq ns → IsTrue (option_map_or (bytes_eq x) (slice_get ns k) false) ↔ (position (bytes_eq x) ns ≡ Some k)
+named_at ns x k d = (
+  λ e. let at = same_at x (slice_get ns k) e in
+      place_of_name ns x k d (slice_get_within ns k x at) (get_or_from_slice_get ns k x [] at),
+  λ e. let (l, same, first) = position-Some (bytes_eq x) ns k [] e in
+      ap (λ o. option_map_or (bytes_eq x) o false) (slice_get-get_or ns k [] l) ∙ same,
+)
 
 -- a name that none of the definitions has
 without : (x : Text) (ds : List (Text × Tree)) → ((i : ℕ) → i < length ds → bytes_eq x (get_or ds i nothing).0 ≡ false) → prefix_len (λ y. not (bytes_eq x y)) (map (λ (d : Text × Tree). d.0) ds) ≡ length (map (λ (d : Text × Tree). d.0) ds)

@@ -13,23 +13,23 @@ use Rattle.rn_assemble.proofs.Renaming.WritableGrammars.{writable_before}
 use Rattle.rn_assemble.proofs.WellFormed.GoodComponents.{set_grammar_writable}
 use Rattle.rn_assemble.proofs.assembly.assemble_short.Goals as goal
 
-pub listed_grammar-grammar-requires-clause-distinct : goal.listed_grammar-grammar-requires-clause-distinct
-listed_grammar-grammar-requires-clause-distinct c =
+pub listed_grammar-requires-clause-distinct : goal.listed_grammar-requires-clause-distinct
+listed_grammar-requires-clause-distinct c =
     let short = c.in_ok-combined.field-0 in
     let (none, (ms, b, e)) = c.in_ok-combined.ensures.assembled in
     distinct_before (long_uri (short_texts short.uris)) (combined_view short.combined).definitions
     (subst (λ (g : Grammar). AreDistinct g.definitions) (sym e) (joined_distinct (set_components ms)))
 
-pub listed_grammar-grammar-requires-clause-well_formed : goal.listed_grammar-grammar-requires-clause-well_formed
-listed_grammar-grammar-requires-clause-well_formed c =
+pub listed_grammar-requires-clause-well_formed : goal.listed_grammar-requires-clause-well_formed
+listed_grammar-requires-clause-well_formed c =
     let short = c.in_ok-combined.field-0 in
     let es = short_texts short.uris in
     let h = c.in_ok-combined.ensures in
     let (none, (ms, b, e)) = h.assembled in
     well_formed_before (table_renames es h.table) (combined_view short.combined) h.known (subst IsWellFormed (sym e) (assembled_well_formed c.args.set.now ms b none))
 
-pub listed_grammar-grammar-requires-clause-writable : goal.listed_grammar-grammar-requires-clause-writable
-listed_grammar-grammar-requires-clause-writable c =
+pub listed_grammar-requires-clause-writable : goal.listed_grammar-requires-clause-writable
+listed_grammar-requires-clause-writable c =
     let short = c.in_ok-combined.field-0 in
     let es = short_texts short.uris in
     let h = c.in_ok-combined.ensures in

@@ -2,6 +2,7 @@ use Rattle.std.proofs.Common.{◌≡◌, get_or, map, sym, ap, ◌∙◌, subst,
 use Rattle.std.specs.Prelude.{bytes_eq, string_bytes}
 use Rattle.std.specs.List.{IsDistinct}
 use Rattle.std.proofs.lemmas.List.{take_all}
+use Rattle.std.proofs.lemmas.Result.{IfOk-weaker}
 use Rattle.rn_assemble.specs.DefinitionsView.{definitions_view}
 use Rattle.rn_pattern.specs.Tree.{Tree}
 use Rattle.rn_pattern.specs.View.{pattern_view}
@@ -19,13 +20,14 @@ loop-number-preserved c =
     entries_more ds n c.loop-number.entries.items c.push.new.self.items (c.in_ok-name.name, c.in_ok-body.body)
     (omega (arith, length_of_view c.args.definitions.now.entries)) c.loop-number.invariant c.in_ok-push.ensures.items (λ i. (name i, body i))
 
-pub returns : goal.returns
-returns c = c.loop-number.invariant ∙ take_all c.loop-number.number (definitions_view c.args.definitions.now.entries) (omega (arith, length_of_view c.args.definitions.now.entries))
-
-pub invariant_of-result : goal.invariant_of-result
-invariant_of-result c =
+pub new-requires : goal.new-requires
+new-requires c =
     let es = c.args.definitions.now.entries in
     let made = c.loop-number.invariant ∙ take_all c.loop-number.number (definitions_view es) (omega (arith, length_of_view es)) in
-    record {
-      distinct = subst (IsDistinct bytes_eq) (sym (ap (map (λ (d : Text × Tree). d.0)) made)) (distinct_names es c.len-number-end.ensures.unique);
-    }
+    subst (IsDistinct bytes_eq) (sym (ap (map (λ (d : Text × Tree). d.0)) made)) (distinct_names es c.len-number-end.ensures.unique)
+
+pub returns : goal.returns
+returns c =
+    let es = c.args.definitions.now.entries in
+    let made = c.loop-number.invariant ∙ take_all c.loop-number.number (definitions_view es) (omega (arith, length_of_view es)) in
+    IfOk-weaker c.new.result _ _ (λ list same. ap definitions_view same ∙ made) c.new.ensures

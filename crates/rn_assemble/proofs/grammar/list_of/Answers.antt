@@ -17,11 +17,9 @@ returns c =
     let kept = items_from_extend c.extend.result c.extend.ensures.ran (YieldsList-from_rest es c.into_iter.ensures.into_iter_gives.0) in
     search rules
 
-pub invariant_of-result : goal.invariant_of-result
-invariant_of-result c =
+pub new-requires : goal.new-requires
+new-requires c =
     let es = c.args.definitions.entries in
     let kept = items_from_extend c.extend.result c.extend.ensures.ran (YieldsList-from_rest es c.into_iter.ensures.into_iter_gives.0) in
     let same : c.extend.new.self.items ≡ es = search rules in
-    record {
-      distinct = subst (λ (fs : List (String Global × Pattern)). IsDistinct bytes_eq (map (λ (d : Text × Tree). d.0) (definitions_view fs))) (sym same) (distinct_names es c.into_iter.ensures.into_iter_gives.4);
-    }
+    subst (λ (fs : List (String Global × Pattern)). IsDistinct bytes_eq (map (λ (d : Text × Tree). d.0) (definitions_view fs))) (sym same) (distinct_names es c.into_iter.ensures.into_iter_gives.4)

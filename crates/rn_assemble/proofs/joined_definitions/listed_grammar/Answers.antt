@@ -13,7 +13,7 @@ pub invariant_of-result : goal.invariant_of-result
 invariant_of-result c =
     let g = c.args.combined in
     let of : List (Text × Tree) → Grammar = λ ds. record { start = pattern_view g.start; definitions = ds } in
-    let same = ap definitions_view (sym c.list_of.ensures) in
+    let same = ap definitions_view (sym c.in_ok-definitions.ensures) in
     record {
       start_tied = g.start_tied;
       tied = subst (HaveTied (firsts_of g.firsts.items)) same g.tied;

@@ -16,9 +16,8 @@ invariant_of-self c =
     let n = c.args.number in
     let e = c.index_mut.result.now in
     let put = ap (λ f. definitions_view (set es n (f.0, c.args.body))) c.index_mut.ensures.value ∙ body_put es n e c.args.body c.requires in
-    record {
-      distinct = subst (IsDistinct bytes_eq) (sym (ap (map (λ (d : Text × Tree). d.0)) put ∙ names_stay (definitions_view es) n (pattern_view c.args.body))) c.args.self.now.distinct;
-    }
+    let same = sym (ap (map (λ (d : Text × Tree). d.0)) put ∙ names_stay (definitions_view es) n (pattern_view c.args.body)) in
+    record { distinct = subst (IsDistinct bytes_eq) same c.args.self.now.distinct; packed = c.args.self.now.packed ∙ same }
 
 pub returns : goal.returns
 returns c =

@@ -22,9 +22,8 @@ invariant_of-self c =
     let n = c.args.number in
     let left = c.replace.new.dest in
     let put = ap (λ f. definitions_view (set es n (f.0, left))) c.index_mut.ensures.value ∙ body_put es n c.index_mut.result.now left c.requires in
-    record {
-      distinct = subst (IsDistinct bytes_eq) (sym (ap (map (λ (d : Text × Tree). d.0)) put ∙ names_stay (definitions_view es) n (pattern_view left))) c.args.self.now.distinct;
-    }
+    let same = sym (ap (map (λ (d : Text × Tree). d.0)) put ∙ names_stay (definitions_view es) n (pattern_view left)) in
+    record { distinct = subst (IsDistinct bytes_eq) same c.args.self.now.distinct; packed = c.args.self.now.packed ∙ same }
 
 pub returns-clause-left : goal.returns-clause-left
 returns-clause-left c =
