@@ -11,6 +11,7 @@ mod heads;
 mod next_key;
 
 use crate::named_modules::NamedModule;
+use crate::packed_names::PackedNames;
 use crate::refusal::Key;
 use heads::Heads;
 pub(crate) use next_key::NextKey;
@@ -29,26 +30,21 @@ struct DefinedName<'s> {
     place: usize,
 }
 
-/// The number of a key, and the name of that number; none of start.
-#[derive(Clone, Copy)]
-struct NumberedName<'s> {
-    name: &'s str,
-    number: usize,
-}
-
 /// The keys of the components of all modules. Start is number 0, and the names follow in the order of their bytes.
 #[derive(Drop)]
 pub(crate) struct Keys<'s> {
     /// The names, in the order of their bytes, each once.
     names: Vec<DefinedName<'s>>,
-    /// For each component by its place among those of all modules, the number of its key, with the name, so that it is
-    /// compared without a look at the names. That the number is that of the component's key no clause says: a wrong one
+    /// For each component by its place among those of all modules, the name of its key, so that it is compared without
+    /// a look at the names; none of start.
+    placed: PackedNames,
+    /// For each component by its place, the number of its key. That it is the right one no clause says: a wrong one
     /// costs time.
-    placed: Vec<NumberedName<'s>>,
+    numbers: Vec<usize>,
     /// The heads of the names.
     heads: Heads,
     ghost in_order: { IsStrictlySortedBy text_cmp (defined_names names.items) } by { IsStrictlySortedBy-prop _ _ },
-    ghost numbered: { HaveNames (defined_names names.items) placed.items },
+    ghost numbered: { HaveNames (defined_names names.items) numbers.items placed },
 }
 
 impl<'s> Keys<'s> {
@@ -65,11 +61,12 @@ impl<'s> Keys<'s> {
         }
         let numbers = number_names(alloc, &mut names, components)?;
         names.shrink_to_fit();
-        let placed = named_numbers(alloc, names.as_slice(), numbers)?;
+        let placed = named_numbers(alloc, names.as_slice(), numbers.as_slice())?;
         let heads = Heads::of(alloc, names.as_slice())?;
         Ok(Keys {
             names,
             placed,
+            numbers,
             heads,
         })
     }
@@ -158,19 +155,20 @@ impl<'s> Keys<'s> {
     fn find_at(&self, place: usize, name: &str) -> Option<usize>
         ensures { IfSome result (IsNameNumber (names_of self.now) name.now) }
     {
-        if place >= self.placed.len() {
+        if !self.placed.is(place, name) {
             return None;
         }
-        let NumberedName { name: own, number } = self.placed[place];
-        if own == name && self.is_of_a_name(number) {
-            return Some(number);
+        let number = self.numbers[place];
+        if self.is_name_number(number) {
+            Some(number)
+        } else {
+            None
         }
-        None
     }
 
     /// Whether a name has the number.
     #[inline(always)]
-    fn is_of_a_name(&self, number: usize) -> bool
+    fn is_name_number(&self, number: usize) -> bool
         ensures { IsTrue result → (0 < number) × (number < length (names_of self.now) + 1) }
     {
         START < number && number < self.len()
@@ -181,7 +179,7 @@ impl<'s> Keys<'s> {
     fn is_named(&self, number: usize, name: &str) -> bool
         ensures { IsTrue result → IsNameNumber (names_of self.now) name.now number }
     {
-        self.is_of_a_name(number) && self.name(number) == name
+        self.is_name_number(number) && self.name(number) == name
     }
 
     /// The number of a name, if a module defines it.
@@ -201,10 +199,7 @@ impl<'s> Keys<'s> {
 
     /// The number of the key of the component at a place; that of start where there is none.
     fn number_at(&self, place: usize) -> usize {
-        match self.placed.get(place) {
-            Some(placed) => placed.number,
-            None => START,
-        }
+        self.numbers.get(place).copied().unwrap_or(START)
     }
 
     /// The place of the first item that defines the name of that number; behind all components where no name has the
@@ -213,7 +208,7 @@ impl<'s> Keys<'s> {
         let named = number.checked_sub(1).and_then(|at| self.names.get(at));
         match named {
             Some(named) => named.place,
-            None => self.placed.len(),
+            None => self.numbers.len(),
         }
     }
 
@@ -328,18 +323,17 @@ fn numbers_by_name(
     Ok(numbers)
 }
 
-/// The numbers of keys, each with its name.
-fn named_numbers<'s>(
+/// The names of the numbers of keys, in the order of the numbers given; none of start.
+fn named_numbers(
     alloc: Global,
-    names: &[DefinedName<'s>],
-    numbers: Vec<usize>,
-) -> Result<Vec<NumberedName<'s>>, AllocError>
-    ensures { IfOk result (λ placed. HaveNames (defined_names names.now) placed.items) }
+    names: &[DefinedName<'_>],
+    numbers: &[usize],
+) -> Result<PackedNames, AllocError>
+    ensures { IfOk result (λ placed. HaveNames (defined_names names.now) numbers.now placed) }
 {
-    let mut placed = Vec::with_capacity(alloc, numbers.len())?;
+    let mut placed = PackedNames::with_capacity(alloc, numbers.len())?;
     for number in numbers {
-        let name = name_of(names, number);
-        placed.push(NumberedName { name, number })?;
+        placed.push(name_of(names, *number))?;
     }
     Ok(placed)
 }

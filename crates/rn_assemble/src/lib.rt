@@ -27,6 +27,7 @@ mod number_runs;
 mod numbers;
 mod one_run;
 mod overriding;
+mod packed_names;
 mod references;
 pub mod refusal;
 mod resolution;

@@ -6,7 +6,6 @@ use Rattle.rn_text.specs.Texts.{Text, text_cmp}
 use Rattle.rn_syntax.specs.Tree as t
 use Rattle.rn_syntax.specs.Tree.{Item, Items}
 use Rattle.rn_assemble.specs.declared.keys.DefinedName.{DefinedName}
-use Rattle.rn_assemble.specs.declared.keys.NumberedName.{NumberedName}
 use Rattle.rn_assemble.specs.Components.{Key, start_key, name_key, NamedModule}
 
 -- the names that items define, those of includes' own items among them
@@ -44,9 +43,9 @@ abbrev pub name_at : List Text → ℕ → Text
 name_at names zero = []
 name_at names (suc n) = slice_index_or names n []
 
--- each entry has the name of its number
-abbrev pub HaveNames : List Text → List NumberedName → Type 0
-HaveNames names ps = map (λ (p : NumberedName). p.name.now) ps ≡ map (λ (p : NumberedName). name_at names p.number) ps
+-- these are the names of the numbers
+abbrev pub HaveNames : (names : List Text) → (numbers : List ℕ) → (placed : List Text) → Type 0
+HaveNames names numbers placed = placed ≡ map (name_at names) numbers
 
 -- the number is that of the name's key
 pub record IsNameNumber (names : List Text) (x : Text) (n : ℕ) : Type 0 where

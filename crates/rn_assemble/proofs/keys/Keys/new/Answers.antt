@@ -1,4 +1,4 @@
-use Rattle.std.proofs.Common.{◌≡◌, ◌+◌, ◌++◌, List, drop, sym, ap, ◌∙◌, subst, append_assoc, append-nil, arith}
+use Rattle.std.proofs.Common.{◌≡◌, ◌+◌, ◌++◌, List, drop, map, sym, ap, ◌∙◌, subst, append_assoc, append-nil, arith}
 use Rattle.std.specs.Prelude.{flat_map}
 use Rattle.std.specs.List.Sorted.{IsStrictlySortedBy}
 use Rattle.std.proofs.lemmas.Cmp.{nat_list_cmp_total}
@@ -11,7 +11,7 @@ use Rattle.rn_pattern.proofs.Ordered.SortedMembers.{sorted_once_members}
 use Rattle.rn_syntax.specs.View.{items_view}
 use Rattle.rn_assemble.specs.Components.{NamedModule}
 use Rattle.rn_assemble.specs.declared.named_modules.NamedModule as code_module
-use Rattle.rn_assemble.specs.inside.Keyed.{defined_names, defines, AreNames, HaveNames}
+use Rattle.rn_assemble.specs.inside.Keyed.{defined_names, defines, name_at, AreNames}
 use Rattle.rn_assemble.specs.inside.Views.{named_module_view, modules_view}
 use Rattle.rn_assemble.proofs.keys.Keys.new.Goals as goal
 
@@ -39,7 +39,7 @@ kept c =
 
 pub invariant_of-result : goal.invariant_of-result
 invariant_of-result c = record {
-  numbered = subst (λ names. HaveNames names c.in_ok-placed.placed.items) (ap defined_names c.as_slice.ensures.value) c.in_ok-placed.ensures;
+  numbered = c.in_ok-placed.ensures ∙ (λ i. map (name_at (defined_names (c.as_slice.ensures.value i))) (c.as_slice-2.ensures.value i));
   in_order = subst (IsStrictlySortedBy text_cmp) (sym (kept c)) (climbs_sorted_once text_cmp nat_list_cmp_total text_same (all c.args.modules.now));
 }
 
