@@ -21,10 +21,6 @@ module _ {X : Type 0} (f : X → Text) where
     is = rw add-one (ap name_key (at_text xs t i l h));
   }
 
--- what two functions make of a list in the same way they make of each member
-pub same_at : {X : Type 0} (f g : X → Text) (xs : List X) (i : ℕ) (x : X) → i < length xs → x ≡ get_or xs i x → map f xs ≡ map g xs → f x ≡ g x
-same_at f g xs i x l here same = ap f here ∙ sym (get_or-map f xs i x [] l) ∙ ap (λ ys. get_or ys i []) same ∙ get_or-map g xs i x [] l ∙ ap g (sym here)
-
 pub number_of_name : (names : List Text) (x : Text) (n : ℕ) → 0 < n → n < length names + 1 → name_at names n ≡ x → IsNameNumber names x n
 number_of_name names x zero a w h = absurd (omega (arith, a))
 number_of_name names x (suc n) a w h = record {
