@@ -91,7 +91,7 @@ pub(crate) fn listed_grammar(
         firsts,
         order,
     } = combined;
-    let definitions = list_of(alloc, definitions)?;
+    let definitions = DefinitionList::new(alloc, definitions)?;
     Ok(ListedGrammar {
         start,
         definitions,
@@ -100,12 +100,4 @@ pub(crate) fn listed_grammar(
         order,
         seed: *seed,
     })
-}
-
-/// The definitions in a list, in the order of the combined patterns.
-fn list_of(alloc: Global, entries: Vec<(String, Pattern)>) -> Result<DefinitionList, AllocError>
-    requires { AreDistinct (definitions_view entries.items) }
-    ensures { IfOk result (λ list. list.entries.items ≡ entries.items) }
-{
-    DefinitionList::new(alloc, entries)
 }

@@ -7,7 +7,11 @@ use Rattle.rn_assemble.specs.DefinitionsView.{definitions_view}
 use Rattle.rn_assemble.specs.SettlingOrder.{IsSettlingOrder}
 use Rattle.rn_assemble.specs.WellFormed.{HasWritableTexts, IsWellFormed}
 use Rattle.rn_assemble.specs.inside.Tied.{HaveTied, firsts_of}
+use Rattle.rn_assemble.proofs.Referring.ListedNames.{distinct_by}
 use Rattle.rn_assemble.proofs.joined_definitions.listed_grammar.Goals as goal
+
+pub new-requires : goal.new-requires
+new-requires c = distinct_by (definitions_view c.args.combined.definitions.items) c.requires.distinct
 
 pub invariant_of-result : goal.invariant_of-result
 invariant_of-result c =
