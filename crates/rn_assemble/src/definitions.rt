@@ -1,13 +1,11 @@
 // The patterns of all keys, combined, with the names of the definitions.
-ghost use Rattle.std.specs.Prelude.{◌≡◌, ◌<◌, ◌≤◌, true, length, map, List, IfOk, MatchResult};
+ghost use Rattle.std.specs.Prelude.{◌≡◌, ◌<◌, ◌≤◌, true, length, string_bytes, List, IfOk, MatchResult, OnOk};
 ghost use Rattle.indexmap.specs.IndexMap.{set_value_at};
-ghost use Rattle.rn_pattern.specs.Tree.{Tree};
 ghost use Rattle.rn_pattern.specs.View.{pattern_view};
-ghost use Rattle.rn_text.specs.Texts.{Text};
 ghost use Rattle.rn_assemble.specs.Combine.{defined_names};
 ghost use Rattle.rn_assemble.specs.Components.{Component, has_key, start_key};
 ghost use Rattle.rn_assemble.specs.DefinitionsView.{definitions_view};
-ghost use Rattle.rn_assemble.specs.inside.CombinedDefinitions.{AreDefinitions};
+ghost use Rattle.rn_assemble.specs.inside.CombinedDefinitions.{AreDefinitions, with_names};
 ghost use Rattle.rn_assemble.specs.inside.Tied.{HasRow, firsts_of};
 ghost use Rattle.rn_assemble.specs.inside.Joining.{CanBeSettled, IsCombinedGrammar, IsMisnamed};
 ghost use Rattle.rn_assemble.specs.inside.Listed.{OfTrees};
@@ -26,6 +24,9 @@ use crate::settling_order::SettlingOrder;
 use crate::trees::Trees;
 use rn_pattern::Pattern;
 use std::alloc::{AllocError, Global};
+
+/// How many bytes a name has room for at least: as many as a boxed `Pat` takes, so that a name lies where a tree was.
+const NAME_ROOM: usize = 32;
 
 /// The combined patterns of all keys, those of names in the order of `defined`. The tree of each component is given up
 /// once it was resolved. The order in which they can be settled is given.
@@ -83,7 +84,7 @@ fn definitions(
         (λ cs. AreDefinedKeys (names_of keys.now) cs defined.now → MatchResult result
         (λ made. AreDefinitions cs made.0.items made.1.items) (IsMisnamed cs)) }
 {
-    let mut definitions = named_definitions(alloc, keys, defined)?;
+    let mut definitions = unnamed_definitions(alloc, defined.len())?;
     let mut firsts = Vec::new(alloc);
     for number in 0..defined.len() {
         let key = defined[number];
@@ -93,27 +94,20 @@ fn definitions(
             put_body(&mut definitions, number, pattern);
         }
     }
-    match combining.refusal(alloc, keys) {
-        Some(refusal) => Err(refusal),
-        None => Ok((definitions, firsts)),
+    if let Some(refusal) = combining.refusal(alloc, keys) {
+        return Err(refusal);
     }
+    name_definitions(alloc, keys, defined, &mut definitions)?;
+    Ok((definitions, firsts))
 }
 
-/// The names of all definitions, each with `empty` for its body as yet. Made at once, they lie side by side in memory.
-fn named_definitions(
-    alloc: Global,
-    keys: &Keys<'_>,
-    defined: &[usize],
-) -> Result<Vec<(String, Pattern)>, AllocError>
-    ensures count { IfOk result (λ ds. length ds.items ≡ length defined.now) }
-    ensures names { (cs : List Component) → AreDefinedKeys (names_of keys.now) cs defined.now
-        → IfOk result (λ ds. map (λ (d : Text × Tree). d.0) (definitions_view ds.items)
-        ≡ defined_names cs) }
+/// As many definitions as are asked for, with no names as yet, each with `empty` for its body.
+fn unnamed_definitions(alloc: Global, count: usize) -> Result<Vec<(String, Pattern)>, AllocError>
+    ensures { IfOk result (λ ds. length ds.items ≡ count) }
 {
-    let mut definitions = Vec::with_capacity(alloc, defined.len())?;
-    for key in defined {
-        let name = String::from_str(alloc, keys.name(*key))?;
-        definitions.push((name, Pattern::Empty))?;
+    let mut definitions = Vec::with_capacity(alloc, count)?;
+    for _ in 0..count {
+        definitions.push((String::new(alloc), Pattern::Empty))?;
     }
     Ok(definitions)
 }
@@ -126,6 +120,33 @@ fn put_body(definitions: &mut Vec<(String, Pattern)>, number: usize, body: Patte
         ≡ set_value_at (definitions_view definitions.old.items) number (pattern_view body) }
 {
     definitions[number].1 = body;
+}
+
+/// Gives each definition the name of its key. Made behind the bodies, names lie where trees were given up.
+fn name_definitions(
+    alloc: Global,
+    keys: &Keys<'_>,
+    defined: &[usize],
+    definitions: &mut Vec<(String, Pattern)>,
+) -> Result<(), AllocError>
+    requires { length definitions.old.items ≡ length defined.now }
+    ensures { OnOk result ((cs : List Component) → AreDefinedKeys (names_of keys.now) cs defined.now
+        → definitions_view definitions.new.items
+        ≡ with_names (defined_names cs) (definitions_view definitions.old.items)) }
+{
+    for number in 0..defined.len() {
+        definitions[number].0 = roomy_name(alloc, keys.name(defined[number]))?;
+    }
+    Ok(())
+}
+
+/// A copy of a name, with room for `NAME_ROOM` bytes at least.
+fn roomy_name(alloc: Global, name: &str) -> Result<String, AllocError>
+    ensures { IfOk result (λ copy. string_bytes copy ≡ name.now) }
+{
+    let mut copy = String::with_capacity(alloc, name.len().max(NAME_ROOM))?;
+    copy.push_str(name)?;
+    Ok(copy)
 }
 
 /// Keeps a row at its number, behind all others. An empty one takes no memory.

@@ -65,9 +65,9 @@ module _ (names : List Text) (cs : List Component) (keys : List ℕ) where
   key_of i = get_or keys i 0
 
   -- all names stand there, and the bodies of the keys before the index are made or noted, with the first places of their members; the trees of the others are what they were
-  pub record Defining (first now : TreeView) (least : Option ℕ) (entries : List (String Global × Pattern)) (rows : List (List ℕ)) (i : ℕ) : Type 0 where
-    pub named : map (λ (d : Text × Tree). d.0) (definitions_view entries) ≡ defined_names cs
-    pub made : least ≡ None → (j : ℕ) → j < i → get_or (definitions_view entries) j nothing ≡ get_or (joined_grammar cs).definitions j nothing
+  pub record Defining (first now : TreeView) (least : Option ℕ) (ds : List (Text × Tree)) (rows : List (List ℕ)) (i : ℕ) : Type 0 where
+    pub named : map (λ (d : Text × Tree). d.0) ds ≡ defined_names cs
+    pub made : least ≡ None → (j : ℕ) → j < i → get_or ds j nothing ≡ get_or (joined_grammar cs).definitions j nothing
     pub size : length rows ≤ i
     pub tied : least ≡ None → (j : ℕ) → j < i → AreTied (row rows j) (joined_members (get_or (joined_grammar cs).definitions j nothing).1)
     pub noted : (j : ℕ) → j < i → BreaksNameRules cs (key_at names (key_of j)) → IsSomeAnd least (λ m. m ≤ key_of j)
@@ -106,8 +106,8 @@ module _ (names : List Text) (cs : List Component) (keys : List ℕ) where
     pub key_name : (i : ℕ) → i < length keys → get_or names (key_of i - 1) [] ≡ name_of i
     key_name i l = keyed_name (get_or names (key_of i - 1) []) (name_of i) (sym (number_name names (key_of i) (key_above i l)) ∙ key_is i l)
 
-    pub defining_begins : (first now : TreeView) (entries : List (String Global × Pattern)) → map (λ (d : Text × Tree). d.0) (definitions_view entries) ≡ defined_names cs → ((n : ℕ) → 0 < n → AgreeAt first now n) → Defining first now None entries [] 0
-    defining_begins first now entries named agree = record {
+    pub defining_begins : (first now : TreeView) (ds : List (Text × Tree)) → map (λ (d : Text × Tree). d.0) ds ≡ defined_names cs → ((n : ℕ) → 0 < n → AgreeAt first now n) → Defining first now None ds [] 0
+    defining_begins first now ds named agree = record {
       named = named;
       made = λ _ j l. absurd (omega (arith, l));
       size = omega arith;
@@ -117,7 +117,7 @@ module _ (names : List Text) (cs : List Component) (keys : List ℕ) where
       left = λ j g l. agree (key_of j) (key_above j l);
     }
 
-    module _ (first now : TreeView) (least : Option ℕ) (entries : List (String Global × Pattern)) (rows : List (List ℕ)) (i : ℕ) (l : i < length keys) (h : Defining first now least entries rows i) where
+    module _ (first now : TreeView) (least : Option ℕ) (ds : List (Text × Tree)) (rows : List (List ℕ)) (i : ℕ) (l : i < length keys) (h : Defining first now least ds rows i) where
       abbrev key : ℕ
       key = key_of i
 
@@ -129,13 +129,12 @@ module _ (names : List Text) (cs : List Component) (keys : List ℕ) where
       earlier_or_here P f p j m = elim (cases_lt j i) [ inl earlier ↦ f j earlier | inr late ↦ subst P (let e : i ≡ j = omega (arith, m, late) in e) p ]
 
       -- the key has a pattern, which is put beside its name
-      pub defining_more : (then : TreeView) (entries' : List (String Global × Pattern)) (rows' : List (List ℕ)) (v : List ℕ) (p : Pattern) → IsKeptPattern cs (key_at names key) (Some p) → AgreeElsewhere then now key
-          → definitions_view entries' ≡ set_value_at (definitions_view entries) i (pattern_view p) → HasRow rows rows' i v → AreTied v (joined_members (joined_pattern cs (key_at names key))) → Defining first then least entries' rows' (i + 1)
-      defining_more then entries' rows' v p kept agree put has tied =
-          let ds = definitions_view entries in
+      pub defining_more : (then : TreeView) (ds' : List (Text × Tree)) (rows' : List (List ℕ)) (v : List ℕ) (p : Pattern) → IsKeptPattern cs (key_at names key) (Some p) → AgreeElsewhere then now key
+          → ds' ≡ set_value_at ds i (pattern_view p) → HasRow rows rows' i v → AreTied v (joined_members (joined_pattern cs (key_at names key))) → Defining first then least ds' rows' (i + 1)
+      defining_more then ds' rows' v p kept agree put has tied =
           let made = (joined_grammar cs).definitions in
           let d : Text × Tree = ((get_or ds i nothing).0, pattern_view p) in
-          let is : definitions_view entries' ≡ set ds i d = put ∙ put_is ds i (pattern_view p) in
+          let is : ds' ≡ set ds i d = put ∙ put_is ds i (pattern_view p) in
           let within : i < length ds = omega (arith, l, count, ap length h.named, length-map ds (λ (d : Text × Tree). d.0)) in
           let name : (get_or ds i nothing).0 ≡ name_of i = sym (get_or-map (λ (d : Text × Tree). d.0) ds i nothing [] within) ∙ ap (λ xs. get_or xs i []) h.named in
           let tree : Some (pattern_view p) ≡ Some (joined_pattern cs (key_at names key)) = kept.0 ∙ ap (λ b. cond b (Some (joined_pattern cs (key_at names key))) None) (key_has i l) in
@@ -157,7 +156,7 @@ module _ (names : List Text) (cs : List Component) (keys : List ℕ) where
           }
 
       -- it breaks the restrictions on name classes, and is noted
-      pub defining_noted : (then : TreeView) → BreaksNameRules cs (key_at names key) → AgreeElsewhere then now key → Defining first then (lesser key least) entries rows (i + 1)
+      pub defining_noted : (then : TreeView) → BreaksNameRules cs (key_at names key) → AgreeElsewhere then now key → Defining first then (lesser key least) ds rows (i + 1)
       defining_noted then breaks agree = record {
         named = h.named;
         made = λ none. absurd (lesser_some key least none);
@@ -171,12 +170,12 @@ module _ (names : List Text) (cs : List Component) (keys : List ℕ) where
 -- ---- behind the last key
 
 module _ {first : TreeView} (names : List Text) (bodies : List Body) (list : List ℕ) (places : List (List ℕ)) (live : List Live) (lists : ListsBy names first bodies list places live) (o : IsStrictlySortedBy text_cmp names) (start_keeps : ¬ BreaksNameRules (components_in live) start_key)
-    (keys : List ℕ) (defined : AreDefinedKeys names (components_in live) keys) (now : TreeView) (entries : List (String Global × Pattern)) (firsts : List (Vec ℕ Global)) (i : ℕ) (past : length keys ≤ i) where
+    (keys : List ℕ) (defined : AreDefinedKeys names (components_in live) keys) (now : TreeView) (ds : List (Text × Tree)) (firsts : List (Vec ℕ Global)) (i : ℕ) (past : length keys ≤ i) where
   abbrev cs : List Component
   cs = components_in live
 
   abbrev Ends : Option ℕ → Type 0
-  Ends least = Defining names cs keys first now least entries (firsts_of firsts) i
+  Ends least = Defining names cs keys first now least ds (firsts_of firsts) i
 
   noted_before : (least : Option ℕ) → Ends least → (m : ℕ) → m < suc (length names) → BreaksNameRules cs (key_at names m) → IsSomeAnd least (λ j. j ≤ m)
   noted_before least h zero l b = absurd (start_keeps b)
@@ -189,12 +188,12 @@ module _ {first : TreeView} (names : List Text) (bodies : List Body) (list : Lis
       subst (λ k. IsSomeAnd least (λ m. m ≤ k)) same (h.noted j (omega (arith, within, past)) (subst (λ k. BreaksNameRules cs (key_at names k)) (sym same) b))
 
   -- all names are defined where none was noted
-  pub defining_ends : (least : Option ℕ) → Ends least → least ≡ None → AreDefinitions cs entries firsts
-  defining_ends least h none =
+  pub defining_ends : (least : Option ℕ) (entries : List (String Global × Pattern)) → Ends least → least ≡ None → definitions_view entries ≡ ds → AreDefinitions cs entries firsts
+  defining_ends least entries h none is =
       let made = (joined_grammar cs).definitions in
       let all : length made ≤ i = omega (arith, past, size names cs keys defined) in
-      let as_many : length (definitions_view entries) ≡ length made = sym (length-map (definitions_view entries) (λ (d : Text × Tree). d.0)) ∙ ap length h.named ∙ count names cs keys defined ∙ size names cs keys defined in
-      let are : definitions_view entries ≡ made = ext_get_or nothing (definitions_view entries) made as_many (λ j l. h.made none j (omega (arith, l, as_many, all))) in
+      let as_many : length ds ≡ length made = sym (length-map ds (λ (d : Text × Tree). d.0)) ∙ ap length h.named ∙ count names cs keys defined ∙ size names cs keys defined in
+      let are : definitions_view entries ≡ made = is ∙ ext_get_or nothing ds made as_many (λ j l. h.made none j (omega (arith, l, as_many, all))) in
       record {
         are = are;
         tied = subst (HaveTied (firsts_of firsts)) (sym are) (λ n d l. subst (λ (e : Text × Tree). AreTied (row (firsts_of firsts) n) (joined_members e.1)) (get_or_default made n nothing d l) (h.tied none n (omega (arith, l, all))));
