@@ -80,7 +80,7 @@ fn settle_definition(
         number d).1))) }
 {
     let body = settled.definitions.body_of(number);
-    let mut likely = Likely::of_definition(settled.likely, number);
+    let mut likely = settled.likely_of(number);
     let kind = evaluate_body(alloc, settled, &mut likely, body, grammar.firsts(number))?;
     settled.kinds.set(number, kind);
     Ok(())

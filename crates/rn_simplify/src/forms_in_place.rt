@@ -18,6 +18,7 @@ use crate::definition_kinds::DefinitionKinds;
 use crate::definition_numbers::Likely;
 use crate::evaluation::settle_all;
 use crate::mentions::Mentions;
+use crate::owned_forms::stays_itself;
 use crate::reference_numbers::referred_numbers;
 use crate::settled_definitions::SettledDefinitions;
 use rn_assemble::{DefinitionList, LikelyReferences, Listed};
@@ -116,8 +117,8 @@ fn firsts_at(firsts: &[Vec<u32>], number: usize) -> &[u32]
     }
 }
 
-/// Puts the form of the definition with a number in the place of its body, out of which it is made. The kinds are handed
-/// back.
+/// Puts the form of the definition with a number in the place of its body, out of which it is made. A body that is its
+/// own form is left where it is. The kinds are handed back.
 #[inline(always)]
 fn form_at(
     alloc: Global,
@@ -138,6 +139,9 @@ fn form_at(
         (slice_index_or (definitions_view definitions.old.entries.items) number d).1)) }
     ensures kept { IfOk result (λ v. v.of_each.items ≡ kinds.of_each.items) }
 {
+    if stays_itself(&kinds, definitions.body_of(number)) {
+        return Ok(kinds);
+    }
     let body = definitions.take(number);
     let settled = SettledDefinitions {
         definitions,
@@ -145,7 +149,7 @@ fn form_at(
         likely,
         seed,
     };
-    let mut numbers = Likely::of_definition(likely, number);
+    let mut numbers = settled.likely_of(number);
     let form = owned_body_form(alloc, &settled, &mut numbers, body, firsts)?;
     let kinds = settled.kinds;
     definitions.put(number, form);

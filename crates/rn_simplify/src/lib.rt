@@ -15,6 +15,7 @@ mod form_kind;
 mod forms_in_place;
 mod joined_bodies;
 pub mod laws;
+mod likely_order;
 mod list_kind;
 mod mentions;
 pub mod normal;

@@ -1,12 +1,14 @@
 // The canonical form of a pattern that is given up, made of what the pattern had (RELAX NG 2001, 4.20 and 4.21).
-ghost use Rattle.std.specs.Prelude.{◌≡◌, IfOk, IsTrue, OnOk, map, string_bytes};
+ghost use Rattle.std.specs.Prelude.{◌≡◌, IfOk, IsTrue, List, OnOk, map, string_bytes};
 ghost use Rattle.std.specs.Rc.{rc_str_bytes};
-ghost use Rattle.rn_pattern.specs.Canonical.{attribute_step, canonical_name, datum_but_step};
-ghost use Rattle.rn_pattern.specs.Tree.{element};
+ghost use Rattle.rn_pattern.specs.Canonical.{attribute_step, canonical, canonical_name, datum_but_step};
+ghost use Rattle.rn_pattern.specs.Tree.{Tree, element};
 ghost use Rattle.rn_pattern.specs.View.{name_class_view, parameters_view, pattern_view, shared_view, shared_trees};
 ghost use Rattle.rn_simplify.specs.inside.ListParts.{members_step, parts};
-ghost use Rattle.rn_simplify.specs.inside.FormKinds.{becomes, settled_form, settled_forms};
+ghost use Rattle.rn_text.specs.Texts.{Text};
+ghost use Rattle.rn_simplify.specs.inside.FormKinds.{becomes, becomes_by, settled_form, settled_forms};
 
+use crate::definition_kinds::DefinitionKinds;
 use crate::definition_numbers::Likely;
 use crate::form_kind::FormKind;
 use crate::list_kind::ListKind;
@@ -196,11 +198,13 @@ fn are_parts(kind: ListKind, members: &[Rc<Pattern>]) -> bool
     true
 }
 
-/// Whether the pattern is its own canonical form, as is seen without a look at what it holds.
+/// Whether the pattern is its own canonical form, as is seen without a look at what it holds, where definitions have
+/// forms of these kinds.
 #[inline(always)]
-fn stays_itself(settled: &SettledDefinitions<'_>, pattern: &Pattern) -> bool
-    ensures { IsTrue result
-        → settled_form settled.now (pattern_view pattern.now) ≡ pattern_view pattern.now }
+pub(crate) fn stays_itself(kinds: &DefinitionKinds, pattern: &Pattern) -> bool
+    ensures { IsTrue result → (definitions : List (Text × Tree))
+        → canonical (becomes_by definitions kinds.now.of_each.items) (pattern_view pattern.now)
+        ≡ pattern_view pattern.now }
 {
     match pattern {
         Pattern::NotAllowed
@@ -208,7 +212,7 @@ fn stays_itself(settled: &SettledDefinitions<'_>, pattern: &Pattern) -> bool
         | Pattern::Text
         | Pattern::Value(_)
         | Pattern::Datum(_, None) => true,
-        Pattern::Ref(_) => settled.kinds.all_stay(),
+        Pattern::Ref(_) => kinds.all_stay(),
         _ => false,
     }
 }
@@ -224,7 +228,7 @@ fn form_member(
     ensures { OnOk result (shared_view member.new
         ≡ settled_form settled.now (shared_view member.old)) }
 {
-    if stays_itself(settled, member) {
+    if stays_itself(&settled.kinds, member) {
         return Ok(());
     }
     match Rc::get_mut(member) {

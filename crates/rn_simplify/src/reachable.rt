@@ -14,6 +14,7 @@ ghost use Rattle.rn_simplify.specs.inside.MarkedElements.{marked_elements};
 ghost use Rattle.rn_simplify.specs.inside.DefinitionNumbers.{MarksReached, reference_numbers, rows_by};
 
 use crate::definition_numbers::Likely;
+use crate::likely_order::put_in_likely_order;
 use crate::mentions::Mentions;
 use crate::reference_numbers::referred_numbers;
 use crate::settled_definitions::SettledDefinitions;
@@ -78,6 +79,7 @@ pub(crate) fn prune_list(
     let is_reached = reached_in_list(alloc, likely, start, &definitions, rows)?;
     sorted_if_marked(
         alloc,
+        likely,
         start,
         definitions.into_entries(),
         &is_reached,
@@ -89,6 +91,7 @@ pub(crate) fn prune_list(
 /// gathered anew only where a form isn't marked.
 fn sorted_if_marked(
     alloc: Global,
+    likely: &LikelyReferences,
     start: &Pattern,
     mut forms: Vec<(String, Pattern)>,
     marks: &[bool],
@@ -108,6 +111,7 @@ fn sorted_if_marked(
     if !are_all_marked(marks) {
         return sorted_marked(alloc, start, forms, marks);
     }
+    put_in_likely_order(alloc, &mut forms, likely.by_name())?;
     sort_by_name(&mut forms)?;
     Ok(Pruned {
         defs: forms,

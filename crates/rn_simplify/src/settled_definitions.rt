@@ -20,8 +20,19 @@ pub(crate) struct SettledDefinitions<'g> {
     ghost sized: { length kinds.of_each.items ≡ length definitions.now.entries.items },
 }
 
-impl SettledDefinitions<'_> {
+impl<'g> SettledDefinitions<'g> {
     ghost use Rattle.rn_simplify.specs.inside.FormKinds.{kind_in};
+
+    /// Where to look first for what the definition with a number refers to: nowhere where all references stay, since
+    /// none is looked up then.
+    #[inline(always)]
+    pub(crate) fn likely_of(&self, number: usize) -> Likely<'g> {
+        if self.kinds.all_stay() {
+            Likely::of_none(self.likely)
+        } else {
+            Likely::of_definition(self.likely, number)
+        }
+    }
 
     /// The kind of the form of the definition of a name. The likely numbers are tried first. The reference to a name
     /// without a definition stays. Nothing is looked up where all stay.

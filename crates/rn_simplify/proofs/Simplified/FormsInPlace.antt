@@ -32,6 +32,12 @@ set_twice [] n p q = refl
 set_twice (d ∷ ds) zero p q = refl
 set_twice (d ∷ ds) (suc n) p q = ap (λ es. d ∷ es) (set_twice ds n p q)
 
+-- a definition that gets the body that it has stays as it is
+pub set_same : (ds : List (Text × Tree)) (n : ℕ) (e : Text × Tree) → set_value_at ds n (get_or ds n e).1 ≡ ds
+set_same [] n e = refl
+set_same (d ∷ ds) zero e = refl
+set_same (d ∷ ds) (suc n) e = ap (λ es. d ∷ es) (set_same ds n e)
+
 -- a definition that gets another body keeps its name
 pub names_set : (ds : List (Text × Tree)) (n : ℕ) (p : Tree) → map (λ (d : Text × Tree). d.0) (set_value_at ds n p) ≡ map (λ (d : Text × Tree). d.0) ds
 names_set [] n p = refl

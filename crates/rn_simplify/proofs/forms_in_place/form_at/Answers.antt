@@ -1,4 +1,4 @@
-use Rattle.std.proofs.Common.{◌≡◌, map, sym, ap, ◌∙◌, subst}
+use Rattle.std.proofs.Common.{◌≡◌, map, refl, sym, ap, ◌∙◌, subst}
 use Rattle.indexmap.specs.IndexMap.{set_value_at}
 use Rattle.rn_assemble.specs.Firsts.{AreFirsts, joined_members}
 use Rattle.rn_assemble.specs.GrammarView.{definitions_view}
@@ -7,9 +7,16 @@ use Rattle.rn_pattern.specs.Tree.{Tree, empty}
 use Rattle.rn_pattern.specs.View.{pattern_view}
 use Rattle.rn_text.specs.Texts.{Text}
 use Rattle.rn_simplify.specs.inside.FormKinds.{becomes_by}
-use Rattle.rn_simplify.proofs.Simplified.FormsInPlace.{becomes_same, names_set, set_twice, size_put}
+use Rattle.rn_simplify.proofs.Simplified.FormsInPlace.{becomes_same, names_set, set_same, set_twice, size_put}
 use Rattle.rn_simplify.proofs.Simplified.ReferenceGraph.{nothing}
 use Rattle.rn_simplify.proofs.forms_in_place.form_at.Goals as goal
+
+pub returns-then-stays_itself-clause-put : goal.returns-then-stays_itself-clause-put
+returns-then-stays_itself-clause-put c = λ d.
+    let ds = definitions_view c.args.definitions.now.entries.items in
+    let n = c.args.number in
+    let form = canonical (becomes_by ds c.args.kinds.of_each.items) in
+    sym (ap (set_value_at ds n) (ap form (sym (c.body_of.ensures d)) ∙ c.if-stays_itself.ensures refl ds ∙ c.body_of.ensures d) ∙ set_same ds n d)
 
 -- as many definitions are left as there were
 pub invariant_of-settled : goal.invariant_of-settled
