@@ -9,6 +9,6 @@ loop-place-preserved c =
     let before = c.args.forms.now.items in
     let at = c.loop-place.forms.items in
     elim c.match-exchange.branch [
-      in-Some w ↦ IsPermutation-trans before at c.match-exchange.forms.items c.loop-place.invariant (subst (λ v. IsPermutation at v.items) (sym w.forms-is) w.swap.ensures)
-    | in_default w ↦ subst (λ v. IsPermutation before v.items) (sym w.forms-is) c.loop-place.invariant
+      | in-Some w ↦ IsPermutation-trans before at c.match-exchange.forms.items c.loop-place.invariant (subst (λ v. IsPermutation at v.items) (sym w.forms-is) w.swap.ensures)
+      | in_default w ↦ subst (λ v. IsPermutation before v.items) (sym w.forms-is) c.loop-place.invariant
     ]
