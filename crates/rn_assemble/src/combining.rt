@@ -10,7 +10,7 @@ ghost use Rattle.rn_assemble.specs.inside.Patterns.{AreShared, AreSharedBy, AreW
 ghost use Rattle.rn_assemble.specs.inside.Views.{names_of};
 ghost use Rattle.rn_assemble.specs.inside.Tied.{body_of};
 ghost use Rattle.rn_assemble.specs.inside.ContextBindings.{InContext};
-ghost use Rattle.rn_assemble.specs.inside.Listed.{AreGivenUp, AreGivenUpTo, AtKey, OfBody, WithBody};
+ghost use Rattle.rn_assemble.specs.inside.Listed.{AreGivenUp, AreGivenUpTo, AreGoneTo, AtKey, OfBody, WithBody};
 ghost use Rattle.rn_assemble.specs.inside.Trees.{AgreeAt, AgreeElsewhere, StillGone, TreeView, trees_by};
 ghost use Rattle.rn_assemble.specs.Resolve.{resolved_pattern};
 
@@ -166,7 +166,7 @@ fn nothing_shared(alloc: Global, components: &Components<'_, '_, '_>) -> Result<
     }
 }
 
-/// Gives up the trees of the key's components.
+/// Gives up the trees of the key's components: of all bodies of the key, where there are fewer bodies than components.
 fn give_up_trees(
     components: &Components<'_, '_, '_>,
     trees: &mut Trees<'_>,
@@ -177,10 +177,31 @@ fn give_up_trees(
         (trees_by trees.old.trees.items) key }
     ensures gone { AreGivenUp components.now (trees_by trees.new.trees.items) key }
 {
+    if components.count_bodies() < components.count_of(key) {
+        give_up_bodies(components, trees, key, near);
+        return;
+    }
     for index in 0..components.count_of(key) {
         if let Some(number) = components.body_of(key, index, near) {
             give_up_tree(components, trees, key, number, near);
         }
+    }
+}
+
+/// Gives up the trees of all bodies of the key.
+fn give_up_bodies(
+    components: &Components<'_, '_, '_>,
+    trees: &mut Trees<'_>,
+    key: usize,
+    near: &mut Near,
+)
+    ensures others { AgreeElsewhere (trees_by trees.new.trees.items)
+        (trees_by trees.old.trees.items) key }
+    ensures gone { AreGoneTo components.now (trees_by trees.new.trees.items) key
+        (length components.now.bodies) }
+{
+    for number in 0..components.count_bodies() {
+        give_up_tree(components, trees, key, number, near);
     }
 }
 
@@ -329,6 +350,9 @@ fn member_pattern(
     let Some(number) = found else {
         return Ok(None);
     };
+    if let Some(Some(pattern)) = shared.get(number) {
+        return Ok(Some(pattern.clone()?));
+    }
     let Some(body) = components.body(number, near) else {
         return Ok(None);
     };
@@ -339,7 +363,7 @@ fn member_pattern(
     Ok(Some(pattern))
 }
 
-/// The pattern of the body, which is resolved where none is held.
+/// The pattern of the body, which is held from now on.
 fn share_body(
     alloc: Global,
     keys: &Keys<'_>,
@@ -350,12 +374,8 @@ fn share_body(
     ensures kept { OfBody (names_of keys.now) (trees_by trees.now.trees.items) body.now
         (λ c. MayHold c held.old → MayHold c held.new) }
     ensures exact { OfBody (names_of keys.now) (trees_by trees.now.trees.items) body.now
-        (λ c. MayHold c held.old
-        → MatchResult result (λ p. IsWellNamed c (shared_view p)) (IsMisnamedBy c)) }
+        (λ c. MatchResult result (λ p. IsWellNamed c (shared_view p)) (IsMisnamedBy c)) }
 {
-    if let Some(pattern) = &*held {
-        return Ok(pattern.clone()?);
-    }
     let pattern = share_pattern(alloc, resolve_body(alloc, keys, trees, body)?)?;
     *held = Some(pattern.clone()?);
     Ok(pattern)

@@ -196,6 +196,13 @@ impl<'c, 't, 's> Components<'c, 't, 's> {
         }
     }
 
+    /// How many keys there are.
+    pub fn count_keys(&self) -> usize
+        ensures { result ≡ length self.now.places.items }
+    {
+        self.places.len()
+    }
+
     /// The place of the first component of a key.
     #[inline(always)]
     pub fn first_of(&self, key: usize) -> Option<usize>

@@ -6,7 +6,7 @@ ghost use Rattle.rn_assemble.specs.Combine.{defined_names};
 ghost use Rattle.rn_assemble.specs.Components.{Component, has_key, start_key};
 ghost use Rattle.rn_assemble.specs.DefinitionsView.{definitions_view};
 ghost use Rattle.rn_assemble.specs.inside.CombinedDefinitions.{AreDefinitions, with_names};
-ghost use Rattle.rn_assemble.specs.inside.Tied.{HasRow, firsts_of};
+ghost use Rattle.rn_assemble.specs.inside.Tied.{AreMet, HasRow, firsts_of};
 ghost use Rattle.rn_assemble.specs.inside.Joining.{CanBeSettled, IsCombinedGrammar, IsMisnamed};
 ghost use Rattle.rn_assemble.specs.inside.Listed.{OfTrees};
 ghost use Rattle.rn_assemble.specs.inside.Trees.{trees_by};
@@ -80,6 +80,7 @@ fn definitions(
     combining: &mut Combining,
     met: &mut Met,
 ) -> Result<(Vec<(String, Pattern)>, Vec<Vec<u32>>), Refusal>
+    requires { AreMet components.now.list components.now.places.items met.old.items }
     ensures { AfterStart keys.now (trees_by trees.old.trees.items) components.now combining.old
         (λ cs. AreDefinedKeys (names_of keys.now) cs defined.now → MatchResult result
         (λ made. AreDefinitions cs made.0.items made.1.items) (IsMisnamed cs)) }
@@ -112,7 +113,7 @@ fn unnamed_definitions(alloc: Global, count: usize) -> Result<Vec<(String, Patte
     Ok(definitions)
 }
 
-/// Puts a body beside the name with a number.
+/// Puts a body into the definition with a number.
 fn put_body(definitions: &mut Vec<(String, Pattern)>, number: usize, body: Pattern)
     requires { number < length definitions.old.items }
     ensures count { length definitions.new.items ≡ length definitions.old.items }

@@ -1,8 +1,8 @@
 // The order in which keys, and the definitions of a grammar, can be settled (RELAX NG 2001, 4.19).
-ghost use Rattle.std.specs.Prelude.{ℕ, ◌<◌, ◌≡◌, IfOk, List, length, map, nat_eq, slice_index_or};
+ghost use Rattle.std.specs.Prelude.{ℕ, ◌<◌, ◌≤◌, ◌≡◌, IfOk, List, Some, length, map, nat_eq, slice_get, slice_index_or};
 ghost use Rattle.std.specs.List.Sorted.{IsStrictlySortedBy};
 ghost use Rattle.rn_text.specs.Texts.{Text, text_cmp};
-ghost use Rattle.rn_pattern.specs.Graph.{IsGraph, rows_of};
+ghost use Rattle.rn_pattern.specs.Graph.{IsGraph, row, rows_of};
 ghost use Rattle.rn_pattern.specs.Ranks.{HasNoLoop, IsFirstLoop, rank_of};
 ghost use Rattle.rn_assemble.specs.Components.{Component};
 ghost use Rattle.rn_assemble.specs.inside.ReferenceOrder.{AreDefinedKeys, ArePlaces, AreReached, IsKeyOrder, IsOrderBy, IsReferenceOrder};
@@ -154,12 +154,38 @@ pub(crate) fn defined_keys(
 {
     let mut keys = Vec::new(alloc);
     let mut near = Near::default();
-    for place in 0..components.count() {
+    for place in 0..end_of_firsts(components) {
         if let Some(key) = components.first_at(place, &mut near) {
             keys.push(key)?;
         }
     }
     Ok(keys)
+}
+
+/// The place behind the first components of all keys, or a later one. Where bodies stand again and again, none of the
+/// places behind it need be looked at.
+fn end_of_firsts(components: &Components<'_, '_, '_>) -> usize
+    ensures { (key place : ℕ) → place < length components.now.list
+        → slice_get (row components.now.places.items key) 0 ≡ Some place → place < result }
+{
+    let count = components.count();
+    if !components.may_repeat_bodies() {
+        return count;
+    }
+    last_first(components).saturating_add(1).min(count)
+}
+
+/// The last of the places of the keys' first components; 0 where there are none.
+fn last_first(components: &Components<'_, '_, '_>) -> usize
+    ensures { (key place : ℕ) → slice_get (row components.now.places.items key) 0 ≡ Some place
+        → place ≤ result }
+{
+    let mut last = 0;
+    for key in 0..components.count_keys() {
+        let first = components.first_of(key).unwrap_or(0);
+        last = last.max(first);
+    }
+    last
 }
 
 impl<'c, 't, 's> Components<'c, 't, 's> {

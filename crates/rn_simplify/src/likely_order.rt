@@ -43,7 +43,8 @@ fn numbers_up_to(alloc: Global, count: usize) -> Result<Vec<u32>, AllocError> {
 }
 
 /// Puts forms in an order that is likely that of their names, so that sorting them moves few. `by_name` are their
-/// numbers in that order; where it is wrong they are in another order. The only error is want of memory.
+/// numbers in that order; where it is wrong they are in another order. Where these rise, the text has the order of the
+/// names, and all stay in place. The only error is want of memory.
 pub(crate) fn put_in_likely_order(
     alloc: Global,
     forms: &mut Vec<(String, Pattern)>,

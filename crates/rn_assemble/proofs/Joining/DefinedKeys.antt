@@ -1,8 +1,11 @@
 -- The keys that components define, one place after the other.
-use Rattle.std.proofs.Common.{◌≡◌, ◌⊎◌, inl, inr, ℕ, zero, suc, ◌+◌, ◌-◌, ◌<◌, ◌≤◌, true, false, List, [], ◌∷◌, ◌++◌, length, get_or, map, None, Some, refl, sym, ap, ◌∙◌, subst, arith, Contains}
+use Rattle.std.proofs.Common.{◌≡◌, ◌⊎◌, inl, inr, ℕ, zero, suc, ◌+◌, ◌-◌, ◌<◌, ◌≤◌, true, false, List, [], ◌∷◌, ◌++◌, length, get_or, map, Option, None, Some, refl, sym, ap, ◌∙◌, subst, arith, Contains}
+use Rattle.std.specs.Prelude.{slice_get}
 use Rattle.std.specs.List.{AllByRecursion}
+use Rattle.std.specs.List.Sorted.{IsStrictlySortedBy}
 use Rattle.std.proofs.lemmas.List.{map-append}
-use Rattle.rn_text.specs.Texts.{Text}
+use Rattle.rn_text.specs.Texts.{Text, text_cmp}
+use Rattle.rn_pattern.specs.Graph.{row}
 use Rattle.rn_assemble.specs.declared.bodies.Body.{Body}
 use Rattle.rn_assemble.specs.Combine.{defined_names}
 use Rattle.rn_assemble.specs.Components.{Component, Key, has_key, name_key, start_key}
@@ -13,7 +16,7 @@ use Rattle.rn_assemble.specs.inside.ReferenceOrder.{AreDefinedKeys}
 use Rattle.rn_assemble.specs.inside.Trees.{TreeView}
 use Rattle.rn_assemble.proofs.Expansion.LiveLists.{each_to}
 use Rattle.rn_assemble.proofs.Joining.DefinedNames.{defined_known, defined_new, defined_start}
-use Rattle.rn_assemble.proofs.Joining.FirstComponents.{all_before, before_more, before_next, none_before}
+use Rattle.rn_assemble.proofs.Joining.FirstComponents.{all_before, before_more, before_next, first_elsewhere, first_within, none_before, row_there}
 
 no_new_name : (cs : List Component) (c : Component) (k : Key) → c.key ≡ k → (k ≡ start_key) ⊎ (has_key k cs ≡ true) → defined_names (cs ++ c ∷ []) ≡ defined_names cs
 no_new_name cs c start_key e h = defined_start cs c e
@@ -74,3 +77,24 @@ pub keys_end : {trees : TreeView} (names : List Text) (bodies : List Body) (list
     → KeysBefore names live lists.rises p keys → AreDefinedKeys names (components_in live) keys
 keys_end names bodies list rows live lists p keys past h =
     subst (λ es. AreDefinedKeys names (components_in es) keys) (all_before p live (places_within names bodies list rows live p lists past)) h
+
+-- behind the first components of all keys
+module _ {trees : TreeView} (names : List Text) (bodies : List Body) (list : List ℕ) (rows : List (List ℕ)) (live : List Live) (lists : ListsBy names trees bodies list rows live) (o : IsStrictlySortedBy text_cmp names)
+    (end : ℕ) (h : (k q : ℕ) → q < length list → slice_get (row rows k) 0 ≡ Some q → q < end) where
+  no_first : (p : ℕ) → end ≤ p → IsFirstAt names live p None
+  no_first p l e c s = by_first (slice_get (row rows e.key) 0) refl
+    where
+      by_first : (f : Option ℕ) → slice_get (row rows e.key) 0 ≡ f → (e.component.key ≡ start_key) ⊎ (has_key e.component.key (components_in (before p live)) ≡ true)
+      by_first None at = absurd (row_there names bodies list rows live lists o e c at)
+      by_first (Some q) at =
+          let before_end = h e.key q (first_within names bodies list rows live lists o e.key q at) at in
+          inr (subst (λ r. has_key e.component.key (components_in (before r live)) ≡ true) s (first_elsewhere names bodies list rows live lists o e q c at (λ same. omega (arith, same, s, before_end, l))))
+
+  keys_kept : (n p : ℕ) (keys : List ℕ) → end ≤ p → KeysBefore names live lists.rises p keys → KeysBefore names live lists.rises (n + p) keys
+  keys_kept zero p keys l k = let same : p ≡ 0 + p = omega arith in subst (λ q. KeysBefore names live lists.rises q keys) same k
+  keys_kept (suc n) p keys l k =
+      let next : n + p + 1 ≡ suc n + p = omega arith in
+      subst (λ q. KeysBefore names live lists.rises q keys) next (keys_same names live lists.rises (n + p) keys (no_first (n + p) (omega (arith, l))) (keys_kept n p keys l k))
+
+  pub keys_past : (p : ℕ) (keys : List ℕ) → end ≤ p → KeysBefore names live lists.rises p keys → AreDefinedKeys names (components_in live) keys
+  keys_past p keys l k = keys_end names bodies list rows live lists (length list + p) keys (omega arith) (keys_kept (length list) p keys l k)

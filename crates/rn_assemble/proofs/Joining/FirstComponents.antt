@@ -129,6 +129,15 @@ module _ {trees : TreeView} (names : List Text) (bodies : List Body) (list : Lis
     | inr g ↦ let wrong : None ≡ Some q = ap (λ r. slice_get r 0) (sym (get_or_past rows k [] g)) ∙ h in cc
   ]
 
+  -- the first place of a row is one of the list
+  pub first_within : (k q : ℕ) → slice_get (row rows k) 0 ≡ Some q → q < length list
+  first_within k q h =
+      let l = row_within k q h in
+      let f = head_is (of_number k) q (ap (λ r. slice_get r 0) (sym (row_is names trees bodies list rows live lists o k l)) ∙ h) in
+      let c = kept_contains (λ (e : Live). eqb e.key k) live f.0 (subst (λ es. Contains es f.0) (sym f.2) (contains_front f.0 f.1)) in
+      let live_there = contained_each (IsLive names trees bodies list) live lists.are f.0 c in
+      omega (arith, live_there.within, f.3)
+
   pub live_keyed : (e : Live) → Contains live e → IsKeyed names e
   live_keyed e c = keyed names trees bodies list e (contained_each (IsLive names trees bodies list) live lists.are e c)
 

@@ -77,7 +77,7 @@ module _ (meant : Reach) where
 
 -- ---- a live component and its body
 
-some_body : (bs : List Body) (n : ℕ) → n < length bs → (b : Body) × (slice_get bs n ≡ Some b) × ((d : Body) → get_or bs n d ≡ b)
+pub some_body : (bs : List Body) (n : ℕ) → n < length bs → (b : Body) × (slice_get bs n ≡ Some b) × ((d : Body) → get_or bs n d ≡ b)
 some_body [] n h = absurd (omega arith)
 some_body (b ∷ bs) zero h = (b, refl, λ d. refl)
 some_body (b ∷ bs) (suc n) h = some_body bs n (omega arith)

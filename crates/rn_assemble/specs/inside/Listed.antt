@@ -92,6 +92,10 @@ AreGivenUpTo x trees key count = (index number : ℕ) (b : Body) → index < cou
 abbrev pub AreGivenUp : Components → TreeView → ℕ → Type 0
 AreGivenUp x trees key = AreGivenUpTo x trees key (length (row x.places.items key))
 
+-- none of the first bodies, as many as are asked for, has a tree of the key any longer
+abbrev pub AreGoneTo : Components → TreeView → ℕ → ℕ → Type 0
+AreGoneTo x trees key count = (number : ℕ) (b : Body) → number < count → slice_get x.bodies number ≡ Some b → trees key b.component.tree ≡ empty
+
 -- ---- of which components a contract speaks
 
 -- P holds of each component that has the body

@@ -58,7 +58,7 @@ invariant_of-result c =
     let same : ◌≡◌ {A = Grammar} (record { start = pattern_view c.unwrap-start.result; definitions = definitions_view c.in_ok-definitions.definitions.items }) (joined_grammar cs) =
     λ i. record { start = start i; definitions = made.are i } in
     record {
-      start_tied = subst (λ p. AreTied firsts (joined_members p)) (sym start) (c.in_ok-start_firsts.ensures trees (names_of c.args.keys.now) live h o (omega arith));
+      start_tied = subst (λ p. AreTied firsts (joined_members p)) (sym start) (c.in_ok-start_firsts.ensures.tied trees (names_of c.args.keys.now) live h o (omega arith));
       tied = made.tied;
       in_order = subst (λ (g : Grammar). IsSettlingOrder g c.args.order.numbers.items) (sym same) order;
     }

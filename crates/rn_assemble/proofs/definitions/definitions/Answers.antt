@@ -11,7 +11,7 @@ use Rattle.rn_assemble.specs.DefinitionsView.{definitions_view}
 use Rattle.rn_assemble.specs.inside.CombinedDefinitions.{with_names}
 use Rattle.rn_assemble.specs.inside.Listed.{components_in}
 use Rattle.rn_assemble.specs.inside.Patterns.{IsKeptOrNoted}
-use Rattle.rn_assemble.specs.inside.Tied.{firsts_of}
+use Rattle.rn_assemble.specs.inside.Tied.{AreMet, firsts_of}
 use Rattle.rn_assemble.specs.inside.Trees.{TreeView, trees_by}
 use Rattle.rn_assemble.specs.inside.Views.{names_of}
 use Rattle.rn_assemble.proofs.Joining.KeyedDefinitions.{Defining, count, defining_begins, defining_ends, defining_more, defining_noted, key_has, key_within, noted_refused}
@@ -31,6 +31,7 @@ module _ (names : List Text) (cs : List Component) (keys : List ℕ) (view now :
 pub loop-number-init : goal.loop-number-init
 loop-number-init c = record {
   count = c.in_ok-definitions.ensures;
+  met = c.requires;
   defining = λ view agree live h o keeps none s defined.
       let names = names_of c.args.keys.now in
       let cs = components_in live in
@@ -52,6 +53,12 @@ loop-number-preserved c = record {
     | in-Some+in_ok-found+in_ok-keep_row w ↦ ap (λ v. length v.items) w.definitions-is ∙ w.put_body.ensures.count ∙ c.loop-number.invariant.count
     | in_default w ↦ ap (λ v. length v.items) w.definitions-is ∙ c.loop-number.invariant.count
   ];
+  met =
+      let x = c.args.components.now in
+      elim c.match-branch-3.branch [
+        | in-Some+in_ok-found+in_ok-keep_row w ↦ subst (λ v. AreMet x.list x.places.items v.items) (sym w.met-is) w.in_ok-found.ensures.met
+        | in_default w ↦ subst (λ v. AreMet x.list x.places.items v.items) (sym w.met-is) c.loop-number.invariant.met
+      ];
   defining = λ view agree live h o keeps none s defined.
       let names = names_of c.args.keys.now in
       let cs = components_in live in
@@ -74,7 +81,7 @@ loop-number-preserved c = record {
         elim c.match-branch-3.branch [
           | in-Some+in_ok-found+in_ok-keep_row w ↦
               let kept = subst (IsKeptOrNoted names cs key least noted) w.in-Some.is made in
-              let tied = w.in_ok-found.ensures view names live h o within in
+              let tied = w.in_ok-found.ensures.tied view names live h o within in
               let has = w.in_ok-keep_row.ensures (omega (arith, before.size, length-map c.loop-number.firsts.items (λ (v : Vec ℕ Global). v.items))) in
               let put_ds = with_names xs (definitions_view w.put_body.new.definitions.items) in
               let put = ap (with_names xs) w.put_body.ensures.bodies ∙ named_body_put xs (definitions_view c.loop-number.definitions.items) i (pattern_view w.in-Some.pattern) in

@@ -1,7 +1,7 @@
-use Rattle.std.proofs.Common.{◌+◌, ◌≤◌, length, sym, ap, ◌∙◌, subst, arith}
+use Rattle.std.proofs.Common.{◌+◌, ◌≤◌, sym, ap, ◌∙◌, subst, arith}
 use Rattle.rn_assemble.specs.inside.Patterns.{IsFirstAt}
 use Rattle.rn_assemble.specs.inside.Views.{names_of}
-use Rattle.rn_assemble.proofs.Joining.DefinedKeys.{KeysBefore, keys_begin, keys_end, keys_more, keys_same}
+use Rattle.rn_assemble.proofs.Joining.DefinedKeys.{KeysBefore, keys_begin, keys_more, keys_past, keys_same}
 use Rattle.rn_assemble.proofs.settling_order.defined_keys.Goals as goal
 use Rattle.rn_assemble.proofs.settling_order.defined_keys.Goals.{in-Some+in_ok-push, in_default}
 
@@ -26,5 +26,7 @@ loop-place-preserved c = λ trees names live h s.
 pub returns : goal.returns
 returns c = λ keys trees live h s.
     let x = c.args.components.now in
-    let past : length x.list ≤ c.loop-place.place = omega (arith, c.loop-place-test.false, c.count-place-end.ensures) in
-    keys_end (names_of keys) x.bodies x.list x.places.items live h c.loop-place.place c.loop-place.keys.items past (c.loop-place.invariant trees (names_of keys) live h s)
+    let names = names_of keys in
+    let end = c.end_of_firsts-place-end.result in
+    let past : end ≤ c.loop-place.place = omega (arith, c.loop-place-test.false) in
+    keys_past names x.bodies x.list x.places.items live h s end c.end_of_firsts-place-end.ensures c.loop-place.place c.loop-place.keys.items past (c.loop-place.invariant trees names live h s)

@@ -1,4 +1,4 @@
-use Rattle.std.proofs.Common.{◌≡◌, ◌+◌, ◌<◌, ◌≤◌, ℕ, Bool, true, false, cond, length, take, refl, sym, ap, ◌∙◌, arith}
+use Rattle.std.proofs.Common.{◌≡◌, ◌+◌, ◌<◌, ◌≤◌, ℕ, suc, Bool, true, false, cond, length, take, refl, sym, ap, ◌∙◌, arith}
 use Rattle.std.specs.Prelude.{count_by}
 use Rattle.std.proofs.lemmas.Bool.{false≢true}
 use Rattle.std.proofs.lemmas.List.{take_all}
@@ -8,9 +8,9 @@ use Rattle.rn_pattern.specs.Graph as graph
 use Rattle.rn_assemble.specs.Components.{Component}
 use Rattle.rn_assemble.specs.Combine.{is_plain}
 use Rattle.rn_assemble.proofs.Expansion.LiveLists.{row_body}
-use Rattle.rn_assemble.proofs.Joining.UsedMethods.{at_row, few_plain, row_size, parts, found_method}
+use Rattle.rn_assemble.proofs.Joining.UsedMethods.{at_row, few_plain, none_plain, row_size, parts, found_method}
 use Rattle.rn_assemble.proofs.components.Components.is_plain_twice.Goals as goal
-use Rattle.rn_assemble.proofs.components.Components.is_plain_twice.Goals.{then-eq+else-is_plain, else-eq}
+use Rattle.rn_assemble.proofs.components.Components.is_plain_twice.Goals.{then-count-lt2-via-then-count-lt2, then-count-lt2-via-else-count-lt2+then-is_unused, then-eq+else-is_plain, else-eq}
 
 at_most_one : (b : Bool) → cond {A = ℕ} b 1 0 ≤ 1
 at_most_one true = omega arith
@@ -19,8 +19,15 @@ at_most_one false = omega arith
 pub returns-then-count-lt2 : goal.returns-then-count-lt2
 returns-then-count-lt2 c = λ trees names live h o k.
     let x = c.args.self.now in
-    let few : length (graph.row x.places.items c.args.key) < 2 = omega (arith, c.if-count-lt2.true, c.count_of-count.ensures) in
-    (λ e. absurd (false≢true e), λ t. absurd (few_plain names x.bodies x.list x.places.items live h o c.args.key (omega (arith, k)) few t))
+    let below : c.args.key < suc (length names) = omega (arith, k) in
+    elim c.then-count-lt2.branch [
+      | then-count-lt2-via-then-count-lt2 w ↦
+          let few : length (graph.row x.places.items c.args.key) < 2 = omega (arith, w.if-count-lt2.true, c.count_of-count.ensures) in
+          (λ e. absurd (false≢true e), λ t. absurd (few_plain names x.bodies x.list x.places.items live h o c.args.key below few t))
+      | then-count-lt2-via-else-count-lt2+then-is_unused w ↦
+          let none = w.is_unused.ensures trees names live h o k w.if-is_unused.true in
+          (λ e. absurd (false≢true e), λ t. absurd (none_plain names x.bodies x.list x.places.items live h o c.args.key below none t))
+    ]
 
 pub returns-then-is_plain : goal.returns-then-is_plain
 returns-then-is_plain c = λ trees names live h o k.
