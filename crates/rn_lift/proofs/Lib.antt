@@ -1,3 +1,4 @@
+mod ExceptedParts
 mod ListsWithOneMore
 mod LiftedModules
 mod StandIns

@@ -1,6 +1,7 @@
 // What references in excepts stand for (RELAX NG 2001, 7.1.4).
 ghost use Rattle.std.specs.Prelude.{◌≡◌, false, [], IfOk, string_bytes};
 ghost use Rattle.std.specs.List.{list_any};
+ghost use Rattle.rn_lift.specs.inside.Excepted.{is_excepted};
 
 use crate::added_prefixes::AddedPrefixes;
 use crate::body_chunks::{BodyChunks, Chunk};
@@ -112,7 +113,7 @@ impl Excepts {
         ensures { IfOk result (λ s. list_any (λ p. p.in_except) outline.now.parts.items ≡ false
             → string_bytes s.declarations ≡ []) }
     {
-        if !outline.has_excepts() {
+        if !has_excepts(unit, outline) {
             return Ok(Spliced::nothing(alloc));
         }
         let mut texts = Vec::new(alloc);
@@ -248,6 +249,26 @@ impl Excepts {
         trail.rest.push(ToWrite::Leave(key))?;
         trail.rest.push(ToWrite::Text(")"))?;
         push_bodies(alloc, units, plan, &mut self.bodies, trail, standing)
+    }
+}
+
+/// Whether a part of a unit stands in an except; the outline is that of the unit's file. Of a file with many grammars
+/// only the parts of the unit are looked at.
+fn has_excepts(unit: &Unit, outline: &Outline) -> bool
+    ensures { result ≡ list_any (is_excepted outline.now.parts.items) unit.now.parts.items }
+{
+    unit.parts
+        .iter()
+        .any(|number| is_in_except(outline, *number))
+}
+
+/// Whether the part of that number stands in an except.
+fn is_in_except(outline: &Outline, number: usize) -> bool
+    ensures { result ≡ is_excepted outline.now.parts.items number }
+{
+    match outline.parts.get(number) {
+        Some(part) => part.in_except,
+        None => false,
     }
 }
 
