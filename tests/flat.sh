@@ -309,6 +309,13 @@ row many_includes 1 '' "$instances" many.rnc
 row many_grammars 1 '' "$instances" grammars.rnc
 sed 's/grammar { start = empty }, //' grammars.rnc >fewer.rnc
 if "$program" fewer.rnc >got.out 2>got.err && grep -q '^start = ' got.out; then pass; else fail "fewer_grammars: $(head -1 got.err)"; fi
+# 200 nested grammars take 2,700 declarations of 30 bytes along each, 16,200,000 bytes; 2,900 are too many
+declared() { for n in $(seq "$1"); do printf 'namespace p%04d = "n:%07d"\n' "$n" "$n"; done; }
+grammars() { printf 'start = element a { empty'; for n in $(seq 200); do printf ', grammar { start = empty }'; done; echo ' }'; }
+{ declared 2900; grammars; } >grown.rnc
+row grown 1 '' "rnc-flat: error: what the files become is longer than they are by more than 16,777,216 bytes: a file's declarations go along with each grammar in it, and a file that is used in several ways is written for each\n" grown.rnc
+{ declared 2700; grammars; } >growing.rnc
+if "$program" growing.rnc >got.out 2>got.err && grep -q '^start = ' got.out; then pass; else fail "growing: $(head -1 got.err)"; fi
 {
     printf 'start = '
     for n in $(seq 150000); do printf 'element name-of-an-element-number-%d { text } |\n' "$n"; done

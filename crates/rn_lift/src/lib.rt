@@ -14,4 +14,4 @@ mod scope_definitions;
 
 pub use excepts::MAX_EXCEPTS;
 pub use lifted::{Basis, Lifted, LiftedModule, Piece};
-pub use lifting::lift;
+pub use lifting::{MAX_GROWTH, lift};

@@ -1,5 +1,6 @@
 // From files to modules: those of the places of a plan, and those that bring in its scopes.
-ghost use Rattle.std.specs.Prelude.{◌≡◌, ◌<◌, ◌⊎◌, ℕ, All, Contains, IfOk, IsPermutation, IsTrue, None, OnOk, drop, string_bytes, vec_len};
+ghost use Rattle.std.specs.Prelude.{◌≡◌, ◌<◌, ◌⊎◌, ◌+◌, ℕ, All, Contains, IfOk, IsPermutation, IsTrue, MatchResult, None, OnOk, drop, length, string_bytes, vec_len};
+ghost use Rattle.rn_plan.specs.declared.lift_fault.LiftFaultKind.TheVariants.{Grown};
 ghost use Rattle.rn_lift.specs.Lifts.{AreRising, bringing_bytes};
 ghost use Rattle.rn_lift.specs.LiftedModules.{AreMadeOfFiles, BringsIn, KeepsText};
 ghost use Rattle.rn_lift.specs.inside.Planned.{HasPlace, IsBrought, IsModuleOfSomePlace};
@@ -10,10 +11,14 @@ ghost use Rattle.rn_plan.specs.ScopeEntries.{entry_of};
 use crate::excepts::Excepts;
 use crate::lifted::{Lifted, LiftedModule, Piece};
 use crate::module_texts::{module_at, unsound_fault};
-use rn_plan::{LiftFault, Lifting, Names, Plan, Scope, Units, make_plan};
+use rn_plan::{LiftFault, LiftFaultKind, Lifting, Names, Plan, Scope, Units, make_plan};
 use rn_text::write_literal;
 use std::alloc::{AllocError, Global};
 use std::cmp::Ordering;
+
+/// How many bytes more than all files together the modules of their places may have. Names of their own make modules
+/// longer than files, as do declarations, which each nested grammar takes along, and files that become several modules.
+pub const MAX_GROWTH: usize = 16_777_216;
 
 /// The module that brings in a scope: it hands the namespace to the first module.
 fn bringing_module(alloc: Global, plan: &Plan, scope: &Scope) -> Result<LiftedModule, AllocError>
@@ -61,11 +66,38 @@ fn place_modules(
 {
     let mut modules = Vec::new(alloc);
     let mut excepts = Excepts::new(alloc, units, plan)?;
+    let mut left = bytes_of_files(units).saturating_add(MAX_GROWTH);
     for number in 0..plan.places.len() {
         let module = module_at(alloc, units, plan, &mut excepts, number)?;
+        left = left_behind(left, &module)?;
         modules.push(module)?;
     }
     Ok(modules)
+}
+
+/// How many bytes the files have together.
+fn bytes_of_files(units: &Units<'_>) -> usize {
+    let mut bytes: usize = 0;
+    for given in &units.files {
+        bytes = bytes.saturating_add(given.file.text.len());
+    }
+    bytes
+}
+
+/// How many of so many bytes are left behind a module's text; `Grown` where it has more.
+fn left_behind(left: usize, module: &LiftedModule) -> Result<usize, LiftFault>
+    ensures { MatchResult result
+        (λ rest. rest + length (string_bytes module.now.text) ≡ left)
+        (λ fault. (fault.kind ≡ Grown) × (left < length (string_bytes module.now.text))) }
+{
+    match left.checked_sub(module.text.len()) {
+        Some(rest) => Ok(rest),
+        None => Err(LiftFault {
+            file: 0,
+            at: 0,
+            kind: LiftFaultKind::Grown,
+        }),
+    }
 }
 
 /// The scopes that modules bring in: all but that of the roots.
@@ -103,8 +135,9 @@ fn add_bringing_modules(
 /// over. The schema of the modules is that of the roots.
 ///
 /// Files that no root reaches become no modules. A file of the roots' scope keeps its name, and its
-/// text, but for the literals of its includes and for what is lifted. Refused with the first fault;
-/// `Memory` stands for want of memory alone.
+/// text, but for the literals of its includes and for what is lifted. Refused with the first fault,
+/// and with `Grown` where the modules of the files' places would have over `MAX_GROWTH` more bytes
+/// than the files, so that memory and time grow with these; `Memory` stands for want of memory alone.
 pub fn lift(alloc: Global, files: &[Lifting<'_>], roots: &[usize]) -> Result<Lifted, LiftFault>
     ensures order { IfOk result (λ l. AreRising l.modules.items) }
     ensures free { IfOk result (λ l. AreFree files.now l.made_stems (string_bytes l.start)) }

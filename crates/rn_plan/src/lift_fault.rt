@@ -13,7 +13,7 @@ pub struct LiftFault {
     pub file: usize,
     /// The byte of the file's text, counted from its start.
     pub at: usize,
-    /// What is wrong there. With `Many`, `Unsound` and `Memory` the file and the byte mean nothing.
+    /// What is wrong there. With `Many`, `Grown`, `Unsound` and `Memory` the file and the byte mean nothing.
     pub kind: LiftFaultKind,
 }
 
@@ -47,6 +47,9 @@ pub enum LiftFaultKind {
     /// The files would make more than [`MAX_PLACES`] modules.
     #[error("more than {most} modules", most = Grouped(MAX_PLACES))]
     Many,
+    /// The modules of the files' places would have over `MAX_GROWTH` of rn_lift more bytes than the files.
+    #[error("modules much longer than the files")]
+    Grown,
     /// The outline is not that of the text: a name or a literal lies not in it, or before another
     /// one that stands before it in the outline.
     #[error("an outline of another text")]

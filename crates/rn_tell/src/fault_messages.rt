@@ -4,7 +4,7 @@ use crate::check_sentences::{
 };
 use crate::report::{Message, Page, Spot, text_of_page};
 use rn_files::{FaultPlace, MAX_SOURCES, SourceFault, SourceFaultKind};
-use rn_lift::{Lifted, MAX_EXCEPTS};
+use rn_lift::{Lifted, MAX_EXCEPTS, MAX_GROWTH};
 use rn_modset::{AddFault, MAX_CONTRIBUTIONS, MAX_NAME, MAX_TEXT};
 use rn_plan::{LiftFault, LiftFaultKind, MAX_PLACES};
 use std::alloc::{AllocError, Global};
@@ -120,7 +120,10 @@ pub fn is_unread(fault: &SourceFault) -> bool {
 /// Where a fault of lifting is told; nowhere where it is about all files.
 pub fn lift_spot(fault: &LiftFault) -> Option<Spot> {
     match fault.kind {
-        LiftFaultKind::Many | LiftFaultKind::Unsound | LiftFaultKind::Memory => None,
+        LiftFaultKind::Many
+        | LiftFaultKind::Grown
+        | LiftFaultKind::Unsound
+        | LiftFaultKind::Memory => None,
         _ => Some(Spot {
             file: fault.file,
             at: fault.at,
@@ -148,6 +151,12 @@ fn lift_sentence(alloc: Global, kind: LiftFaultKind) -> Result<String, AllocErro
             MAX_PLACES,
             "modules",
         ),
+        LiftFaultKind::Grown => {
+            let before = "what the files become is longer than they are by more than";
+            let behind =
+                "bytes: a file's declarations go along with each grammar in it, and a file that is used in several ways is written for each";
+            return limit_sentence(alloc, before, MAX_GROWTH, behind);
+        }
         LiftFaultKind::IncludedPattern => {
             "the file is a pattern, and only a grammar can be included; external takes a pattern"
         }
