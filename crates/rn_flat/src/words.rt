@@ -11,6 +11,9 @@ use std::fmt;
 /// The word for standard output: that for standard input.
 const STANDARD_OUTPUT: &str = STANDARD_INPUT;
 
+/// The version that is answered. A program that is built without a proof says so behind it.
+const VERSION: &str = "1.0";
+
 /// What is said above the options.
 const ABOUT: &str =
     "Reads RELAX NG schemas in the compact syntax, with all files that they include or refer to, and prints one flat schema in one canonical spelling.";
@@ -122,7 +125,7 @@ pub fn read_words(alloc: Global, words: &[String]) -> Result<Words, WordsFault> 
 fn program<'a>(alloc: Global) -> Result<Command<'a>, AllocError> {
     let program = Command::new(alloc, "rnc-flat")
         .no_binary_name(true)
-        .version("1.0")
+        .version(VERSION)
         .about(ABOUT)
         .after_help(AFTER)
         .arg(files(alloc))?
