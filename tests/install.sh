@@ -1,0 +1,70 @@
+#!/usr/bin/env bash
+# Installs the programs below folders of its own and takes them away again; compares completions with what the programs take; runs the examples.
+# Usage: tests/install.sh [PROGRAM]   (rnc-flat; without PROGRAM: crates/rnc_flat/out/rnc_flat)
+set -u
+
+top=$(cd "$(dirname "${BASH_SOURCE[0]}")/.." && pwd)
+source "$top/tests/rows.sh" rnc_flat "$@"
+
+# ---- what is installed, and taken away
+wanted="bin/rnc-flat bin/rnc-merge
+share/bash-completion/completions/rnc-flat share/bash-completion/completions/rnc-merge
+share/fish/vendor_completions.d/rnc-flat.fish share/fish/vendor_completions.d/rnc-merge.fish
+share/man/man1/rnc-flat.1 share/man/man1/rnc-merge.1
+share/zsh/site-functions/_rnc-flat share/zsh/site-functions/_rnc-merge"
+installed() { (cd "$1" && find . -type f -printf '%P\n' | sort | tr '\n' ' '); }
+list=$(printf '%s' "$wanted" | tr ' ' '\n' | sort | tr '\n' ' ')
+
+# lists NAME FOLDER WANTED: these are the files below the folder.
+lists() {
+    local got
+    got=$(installed "$2")
+    if [ "${got% }" = "${3% }" ]; then pass; else fail "$1: $got"; fi
+}
+
+# A checkout of its own, in which both programs are built.
+mkdir checkout && cp -r "$top/install" "$top/man" checkout/ && mkdir checkout/bin
+cp "$program" checkout/bin/rnc-flat && cp "$program" checkout/bin/rnc-merge
+succeeds relative_prefix checkout/install here
+lists relative_prefix_files here "$list"
+succeeds below_destdir env DESTDIR="$PWD/there" checkout/install /usr
+lists below_destdir_files there/usr "$list"
+succeeds program_installed here/bin/rnc-flat --version
+succeeds uninstalled checkout/install --uninstall here
+lists uninstalled_files here ""
+succeeds uninstalled_destdir env DESTDIR="$PWD/there" checkout/install --uninstall /usr
+lists uninstalled_destdir_files there ""
+succeeds install_help checkout/install --help
+if checkout/install a b >said 2>&1 || [ $? -ne 2 ]; then fail two_prefixes; else pass; fi
+rm checkout/bin/rnc-merge
+if checkout/install here >said 2>&1; then fail lacking_program; else pass; fi
+lists lacking_program_files here ""
+succeeds build_help "$top/build" --help
+
+# ---- completions have the options of the help, and shells read them
+"$program" --help | grep -oE '^ +(-[a-zA-Z], )?--[a-z-]+' | grep -oE -- '--?[a-zA-Z-]+' | sort >help.options
+"$top/man/completions" --options rnc-flat | sort >own.options
+same options_completed help.options own.options
+for name in rnc-flat rnc-merge; do
+    succeeds "bash_completion_$name" bash -n <("$top/man/completions" bash $name)
+done
+said=$(bash -c 'source <("$1" bash rnc-flat); COMP_WORDS=(rnc-flat --ma); COMP_CWORD=1; _rnc_flat; echo "${COMPREPLY[*]}"' - "$top/man/completions")
+if [ "$said" = --map ]; then pass; else fail "completed: $said"; fi
+said=$(bash -c 'source <("$1" bash rnc-merge); COMP_WORDS=(rnc-merge wi); COMP_CWORD=1; _rnc_merge; echo "${COMPREPLY[*]}"' - "$top/man/completions")
+if [ "$said" = withdraw ]; then pass; else fail "completed: $said"; fi
+
+# ---- the examples
+export RNC_FLAT=$program
+"$top/examples/run" >run.out 2>run.err
+if [ $? -eq 0 ] && [ "$(grep -c '^== examples/' run.out)" -eq 3 ] && [ "$(grep -c '^start = ' run.out)" -eq 3 ]; then pass; else fail "examples: $(tail -2 run.err)"; fi
+printf 'default namespace = ""\nstart = doc\ndoc = element a { empty } | element b { text }\n' >two.wanted
+"$top/examples/run" "$top/examples/two" >two.out
+same folder_of_examples two.wanted two.out
+mkdir -p packed/part && printf 'include "part/x.rnc"\nstart = x\n' >packed/main.rnc && printf 'x = text\n' >packed/part/x.rnc
+"$top/examples/pack-folder" packed >packed.set
+if [ "$(grep -a -c '^module \(main\|part/x\).rnc 1 ' packed.set)" -eq 2 ]; then pass; else fail pack_folder; fi
+printf 'include "http://m/x.rnc"\nstart = x\n' >packed/main.rnc
+succeeds pack_folder_map "$top/examples/pack-folder" packed --map http://m/=packed/part
+if "$top/examples/pack-folder" checkout >said 2>&1; then fail pack_nothing; else pass; fi
+
+tell
