@@ -134,7 +134,7 @@ impl From<clap::Error> for ProgramFault {
 
 impl From<RunFault> for ProgramFault {
     ghost use Rattle.std.specs.Prelude.{◌≡◌};
-    ghost use Rattle.rn_merge.specs.inside.Outcomes.{run_fault};
+    ghost use Rattle.rn_merge.specs.ProgramFaults.{run_fault};
 
     ghost from_gives = { λ fault r. r ≡ run_fault fault };
 

@@ -4,7 +4,7 @@ use Rattle.rn_assemble.specs.ShortTexts.{short_texts}
 use Rattle.rn_simplify.specs.NormalView.{normal_view}
 use Rattle.rn_merge.proofs.Verdicts.Schemas.{answered_refusal, lacking, printed_answer, printed_known, printed_refusal, printed_schema}
 use Rattle.rn_merge.proofs.Verdicts.SetVerdict.{answered_first}
-use Rattle.rn_merge.proofs.verdict.verdict_of.Goals as goal
+use Rattle.rn_merge.proofs.verdict.merge.Goals as goal
 
 pub returns-in_err-grammar-clause-verdict : goal.returns-in_err-grammar-clause-verdict
 returns-in_err-grammar-clause-verdict c =
