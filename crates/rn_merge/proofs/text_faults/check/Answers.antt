@@ -5,7 +5,7 @@ use Rattle.rn_text.specs.Tokens.{HasTokens, lexeme_of}
 use Rattle.rn_text.specs.declared.source.Token.{Token}
 use Rattle.rn_syntax.specs.View.{module_view}
 use Rattle.rn_merge.proofs.FaultsOfTexts.TokenFaults.{tokens_of, has_place}
-use Rattle.rn_merge.proofs.text_faults.module_of.Goals as goal
+use Rattle.rn_merge.proofs.text_faults.check.Goals as goal
 
 pub returns-in_err-parse-clause-err : goal.returns-in_err-parse-clause-err
 returns-in_err-parse-clause-err c =

@@ -1,0 +1,2 @@
+mod ReadInputs
+mod WrittenJobs
