@@ -159,11 +159,20 @@ pub fn plan(alloc: Global, words: &[String]) -> Result<Job, ProgramFault>
         let files = copies(alloc, [STANDARD_INPUT].as_slice())?;
         return Ok(Job::Print { files });
     }
+    if !is_command(words[0].as_str()) {
+        return Err(ProgramFault::Usage);
+    }
     let matches = program(alloc)?.try_get_matches_from(words)?;
     match matches.subcommand() {
         Some((command, words)) => command_job(alloc, command, words),
         None => Err(ProgramFault::Usage),
     }
+}
+
+/// Whether there is a command of this name. Of any other name clap would look for one that is like
+/// it, and would leave that out where memory for it is refused.
+fn is_command(word: &str) -> bool {
+    COMMANDS.iter().any(|command| command.0 == word)
 }
 
 /// The commands and their words.

@@ -5,8 +5,7 @@ use crate::comparing::{holds, same_bytes};
 use crate::given_texts::written_set;
 use rn_assemble::Refusal;
 use rn_merge::{
-    Failed, ReadFault, RunFault, Sink, Source, Status, read_input, run_print,
-    write_output,
+    Failed, ReadFault, RunFault, Sink, Source, Status, read_input, run_print, write_output,
 };
 use rn_modset::{BundleFault, write_bundle};
 use std::alloc::Global;

@@ -25,7 +25,12 @@ fn main(rt: HostRuntime) -> ExitCode {
 fn run(rt: &HostRuntime) -> Result<(), ProgramFault> {
     let words = words(rt)?;
     let job = plan(rt.alloc(), words.as_slice())?;
-    perform(rt.alloc(), &System { rt }, job, &mut Output::new(rt.stdout()))
+    perform(
+        rt.alloc(),
+        &System { rt },
+        job,
+        &mut Output::new(rt.stdout()),
+    )
 }
 
 /// The words behind the program's name.

@@ -9,10 +9,14 @@ use Rattle.rn_merge.proofs.run.run_print.Goals as goal
 pub returns-clause-run : goal.returns-clause-run
 returns-clause-run g c =
     let union = c.in_ok-union.union in
-    let text = string_bytes c.in-Ok.text in
-    (union, c.in_ok-union.ensures.ok, text, schema union text c.in-Ok.ensures.verdict,
-    subst (AppendsFront (g.W.Sink.contents c.args.out.now) (g.W.Sink.contents c.write_output.new.out)) c.as_bytes.ensures.value c.write_output.ensures.front,
-    c.in-Err-write_output.ensures.err)
+    let text = string_bytes c.in-Ok.text in (
+      union,
+      c.in_ok-union.ensures.ok,
+      text,
+      schema union text c.in-Ok.ensures.verdict,
+      subst (AppendsFront (g.W.Sink.contents c.args.out.now) (g.W.Sink.contents c.write_output.new.out)) c.as_bytes.ensures.value c.write_output.ensures.front,
+      c.in-Err-write_output.ensures.err,
+    )
 
 pub returns-in-Err-clause-run : goal.returns-in-Err-clause-run
 returns-in-Err-clause-run g c =
@@ -28,7 +32,11 @@ returns-in-Err-clause-kept g c =
 pub returns-in-Ok-write_output-clause-run : goal.returns-in-Ok-write_output-clause-run
 returns-in-Ok-write_output-clause-run g c =
     let union = c.in_ok-union.union in
-    let text = string_bytes c.in-Ok.text in
-    (union, c.in_ok-union.ensures.ok, text, schema union text c.in-Ok.ensures.verdict,
-    subst (Appends (g.W.Sink.contents c.args.out.now) (g.W.Sink.contents c.write_output.new.out)) c.as_bytes.ensures.value c.in-Ok-write_output.ensures.ok,
-    c.in-Ok-write_output.ensures.sound)
+    let text = string_bytes c.in-Ok.text in (
+      union,
+      c.in_ok-union.ensures.ok,
+      text,
+      schema union text c.in-Ok.ensures.verdict,
+      subst (Appends (g.W.Sink.contents c.args.out.now) (g.W.Sink.contents c.write_output.new.out)) c.as_bytes.ensures.value c.in-Ok-write_output.ensures.ok,
+      c.in-Ok-write_output.ensures.sound,
+    )
