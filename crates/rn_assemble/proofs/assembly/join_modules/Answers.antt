@@ -10,7 +10,7 @@ use Rattle.rn_assemble.specs.inside.Trees.{trees_by}
 use Rattle.rn_assemble.specs.inside.Views.{AreNamed, module_names, modules_view, names_of, with_items}
 use Rattle.rn_assemble.proofs.Answering.CheckedModules.{expanded}
 use Rattle.rn_assemble.proofs.Expansion.WantedNumbers.{names_rise, names_seen}
-use Rattle.rn_assemble.proofs.assembly.combine_modules.Goals as goal
+use Rattle.rn_assemble.proofs.assembly.join_modules.Goals as goal
 
 -- the modules without their items are named as those with them, and these are expanded
 modules_expanded : (c : goal.After-trees-1) → AreNamed (modules_view c.args.modules.items) c.as_slice-6.result.now
@@ -32,11 +32,11 @@ modules_expanded c =
     let found = c.in_ok-components.ensures in
     (named, expanded ms names c.in_ok-components.components c.as_slice-5.result.now order c.requires.flat included keyed (found.listed trees ms names can size included.within) (found.lacks trees ms names can size included.within))
 
-pub combine_keys-requires : goal.combine_keys-requires
-combine_keys-requires c = let (named, is) = modules_expanded c in (modules_view c.args.modules.items, named, is)
+pub join_keys-requires : goal.join_keys-requires
+join_keys-requires c = let (named, is) = modules_expanded c in (modules_view c.args.modules.items, named, c.requires.kept, is)
 
 pub returns : goal.returns
 returns c =
     let here : goal.After-trees-1 = assumption in
     let (named, is) = modules_expanded here in
-    c.combine_keys.ensures (modules_view c.args.modules.items) named is
+    c.join_keys.ensures (modules_view c.args.modules.items) named is

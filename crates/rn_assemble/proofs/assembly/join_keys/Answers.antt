@@ -5,19 +5,19 @@ use Rattle.std.proofs.lemmas.Result.{err_from_is_err_and}
 use Rattle.rn_text.specs.Texts.{text_cmp}
 use Rattle.rn_assemble.specs.inside.Listed.{Lists, Live, components_in}
 use Rattle.rn_assemble.specs.inside.Methods.{CanCombine, IsUncombined}
-use Rattle.rn_assemble.specs.inside.ReferenceOrder.{AreDefinedKeys}
+use Rattle.rn_assemble.specs.inside.ReferenceOrder.{AreDefinedKeys, IsReferenceOrder}
 use Rattle.rn_assemble.specs.inside.Sound.{HasSoundReferences, IsUnsound}
 use Rattle.rn_assemble.specs.inside.Trees.{TreeView}
 use Rattle.rn_assemble.specs.inside.Views.{names_of}
 use Rattle.rn_assemble.proofs.Answering.FirstRefusal.{uncombined_first, unsound_first}
-use Rattle.rn_assemble.proofs.Answering.CheckedModules.{at_set, combined_or_first, passed_methods, passed_overrides, can_be_settled}
+use Rattle.rn_assemble.proofs.Answering.CheckedModules.{at_set, can_be_joined, joined_or_first, passed_methods, passed_overrides}
 use Rattle.rn_assemble.proofs.Referring.DefinedOrder.{start_apart}
-use Rattle.rn_assemble.proofs.assembly.combine_keys.Goals as goal
-use Rattle.rn_assemble.proofs.assembly.combine_keys.Goals.{In_ok-defined}
+use Rattle.rn_assemble.proofs.assembly.join_keys.Goals as goal
+use Rattle.rn_assemble.proofs.assembly.join_keys.Goals.{In_ok-defined}
 
 pub check_overrides-requires : goal.check_overrides-requires
 check_overrides-requires c =
-    let (ms, named, h) = c.requires in
+    let (ms, named, kept, h) = c.requires in
     (ms, named, h.lack)
 
 pub returns-in_err-check_methods : goal.returns-in_err-check_methods
@@ -37,31 +37,34 @@ are_defined c keys e live l s = subst (AreDefinedKeys (names_of c.args.keys.now)
 pub check_references-requires : goal.check_references-requires
 check_references-requires c =
     let here : In_ok-defined = assumption in
-    let (ms, named, h) = c.requires in
+    let (ms, named, kept, h) = c.requires in
     let d = are_defined here c.deref.result.now c.deref.ensures.value h.listed.0 h.listed.1 h.in_order in
     record { once = start_apart (names_of c.args.keys.now) (components_in h.listed.0) c.deref.result.now d; within = subst (λ n. AllByRecursion (λ k. k < n) c.deref.result.now) (let e : suc (length (names_of c.args.keys.now)) ≡ length (names_of c.args.keys.now) + 1 = omega arith in e) d.within }
 
-pub returns-in_err-references : goal.returns-in_err-references
-returns-in_err-references c = λ ms named h.
+pub returns-in_err-reached : goal.returns-in_err-reached
+returns-in_err-reached c = λ ms named h.
     let here : In_ok-defined = assumption in
     let names = names_of c.args.keys.now in
     let x = c.args.components.now in
-    let q = c.in_err-references.field-0.0 in
-    let p = err_from_is_err_and c.from_residual-in_err-references.result c.from_residual-in_err-references.ensures.1 in
+    let q = c.in_err-reached.field-0.0 in
+    let p = err_from_is_err_and c.from_residual-in_err-reached.result c.from_residual-in_err-reached.ensures.1 in
     let passed = passed_methods ms names x h (c.in_ok-check_overrides.ensures ms named h.lack) (at_set ms names x h CanCombine (c.in_ok-check_methods.ensures _)) in
-    rw (p.1, p.2) (unsound_first ms passed q (at_set ms names x h (λ cs. IsUnsound cs q) (λ live l s. c.in_err-references.ensures live l s (are_defined here c.deref.result.now c.deref.ensures.value live l s))))
+    rw (p.1, p.2) (unsound_first ms passed q (at_set ms names x h (λ cs. IsUnsound cs q) (λ live l s. c.in_err-reached.ensures live l s (are_defined here c.deref.result.now c.deref.ensures.value live l s))))
 
-pub combined_grammar-requires : goal.combined_grammar-requires
-combined_grammar-requires c =
+pub joined_grammar-requires : goal.joined_grammar-requires
+joined_grammar-requires c =
     let here : In_ok-defined = assumption in
-    let (ms, named, h) = c.requires in
+    let (ms, named, kept, h) = c.requires in
     let names = names_of c.args.keys.now in
     let x = c.args.components.now in
-    can_be_settled ms names x h (c.in_ok-check_overrides.ensures ms named h.lack) (at_set ms names x h CanCombine (c.in_ok-check_methods.ensures _)) c.deref-3.result.now c.in_ok-order.order.numbers.items
+    let sound = at_set ms names x h HasSoundReferences (λ live l s. (c.in_ok-reached.ensures live l s (are_defined here c.deref.result.now c.deref.ensures.value live l s)).0) in
+    can_be_joined ms names x h (c.in_ok-check_overrides.ensures ms named h.lack) (at_set ms names x h CanCombine (c.in_ok-check_methods.ensures _)) sound kept c.deref-4.result.now c.in_ok-order.order.items
     (λ live l s.
+    let cs = components_in live in
     let defined = λ (keys : List ℕ) (e : keys ≡ c.in_ok-defined.defined.items). are_defined here keys e live l s in
-    let sound = c.in_ok-references.ensures live l s (defined c.deref.result.now c.deref.ensures.value) in
-    (defined c.deref-3.result.now c.deref-3.ensures.value, c.in_ok-order.ensures (components_in live) s (defined c.deref-2.result.now c.deref-2.ensures.value) sound.1))
+    let found = c.in_ok-reached.ensures live l s (defined c.deref.result.now c.deref.ensures.value) in
+    let reached = subst (IsReferenceOrder names cs) (sym c.deref-3.ensures.value) found.1 in
+    (defined c.deref-4.result.now c.deref-4.ensures.value, c.in_ok-order.ensures cs s (defined c.deref-2.result.now c.deref-2.ensures.value) reached))
 
 pub returns : goal.returns
 returns c = λ ms named h.
@@ -69,6 +72,6 @@ returns c = λ ms named h.
     let names = names_of c.args.keys.now in
     let x = c.args.components.now in
     let can = at_set ms names x h CanCombine (c.in_ok-check_methods.ensures _) in
-    let sound = at_set ms names x h HasSoundReferences (λ live l s. (c.in_ok-references.ensures live l s (are_defined here c.deref.result.now c.deref.ensures.value live l s)).0) in
-    combined_or_first ms names x h (c.in_ok-check_overrides.ensures ms named h.lack) can sound c.combined_grammar.result
-    (λ live l s. c.combined_grammar.ensures live l s (are_defined here c.deref-3.result.now c.deref-3.ensures.value live l s))
+    let sound = at_set ms names x h HasSoundReferences (λ live l s. (c.in_ok-reached.ensures live l s (are_defined here c.deref.result.now c.deref.ensures.value live l s)).0) in
+    joined_or_first ms names x h (c.in_ok-check_overrides.ensures ms named h.lack) can sound c.joined_grammar.result
+    (λ live l s. c.joined_grammar.ensures live l s (are_defined here c.deref-4.result.now c.deref-4.ensures.value live l s))

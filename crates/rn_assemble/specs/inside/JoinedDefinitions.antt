@@ -1,9 +1,7 @@
--- The definitions that the keys of a set are combined to.
-use Rattle.std.specs.Prelude.{◌≡◌, ℕ, List, [], ◌∷◌, String, Vec}
+-- The definitions to which the components of a set are joined.
+use Rattle.std.specs.Prelude.{◌≡◌, ℕ, List, String, Vec}
 use Rattle.std.specs.declared.alloc.Global.{Global}
-use Rattle.rn_pattern.specs.Tree.{Tree}
 use Rattle.rn_pattern.specs.declared.tree.Pattern.{Pattern}
-use Rattle.rn_text.specs.Texts.{Text}
 use Rattle.rn_assemble.specs.Combine.{joined_grammar}
 use Rattle.rn_assemble.specs.Components.{Component, Key}
 use Rattle.rn_assemble.specs.DefinitionsView.{definitions_view}
@@ -15,9 +13,3 @@ pub record AreDefinitions (cs : List Component) (ds : List (String Global × Pat
   pub are : definitions_view ds ≡ (joined_grammar cs).definitions
   pub tied : HaveTied (firsts_of firsts) (definitions_view ds)
   pub keep : (k : Key) → ¬ BreaksNameRules cs k
-
--- the definitions with these names for theirs, as far as there are names
-abbrev pub with_names : List Text → List (Text × Tree) → List (Text × Tree)
-with_names [] ds = ds
-with_names (x ∷ xs) [] = []
-with_names (x ∷ xs) (d ∷ ds) = (x, d.1) ∷ with_names xs ds
