@@ -6,7 +6,7 @@ ghost use Rattle.rn_merge.specs.Verdicts.{IsAnswer};
 
 use rn_assemble::{Refusal, ShortGrammar, assemble_short};
 use rn_modset::ModuleSet;
-use rn_simplify::{into_normal, print_long};
+use rn_simplify::{normalise, print_long};
 use std::alloc::Global;
 
 /// The verdict of the set: its flat schema in the canonical text, or the first refusal that stands,
@@ -29,6 +29,6 @@ pub fn merge(alloc: Global, set: &ModuleSet) -> Result<String, Refusal>
     ensures first { IfErr result (RefusesFirst set.now) }
 {
     let ShortGrammar { grammar, uris } = assemble_short(alloc, set)?;
-    let normal = into_normal(alloc, grammar)?;
+    let normal = normalise(alloc, &grammar)?;
     print_long(alloc, &normal, &uris)
 }
