@@ -1,11 +1,11 @@
 -- What is written of a job, or the fault in its place.
-use Rattle.std.proofs.Common.{◌≡◌, ℕ, Bool, List, Option, inl, inr, refl, sym, subst}
-use Rattle.std.specs.Prelude.{IsErrAnd, IsOk, IfErr, Result, Ok, Err}
+use Rattle.std.proofs.Common.{◌≡◌, ℕ, List, refl, sym, subst}
+use Rattle.std.specs.Prelude.{IsErrAnd, IfErr, Result, Ok, Err}
 use Rattle.rn_merge.specs.ProgramFaults.{run_fault}
 use Rattle.rn_merge.specs.Runs.{HasNoUnion}
 use Rattle.rn_merge.specs.declared.run.RunFault.{RunFault}
 use Rattle.rn_merge.specs.declared.words.ProgramFault.{ProgramFault}
-use Rattle.rnc_merge.specs.Jobs.{IsUnionFault, IsWritten, Writes}
+use Rattle.rnc_merge.specs.Jobs.{IsUnionFault}
 
 -- an error that is this fault
 pub at_fault : {T : Type 0} (P : ProgramFault → Type 0) (result : Result T ProgramFault) (fault : ProgramFault) → IsErrAnd result (λ f. f ≡ fault) → P fault → IsErrAnd result P

@@ -1,5 +1,5 @@
 -- Files that are read in order: what each gave, or the first that gave nothing.
-use Rattle.std.specs.Prelude.{◌≡◌, ℕ, List, Option, Some, slice_get, take}
+use Rattle.std.specs.Prelude.{◌≡◌, ℕ, List, Some, slice_get, take}
 use Rattle.std.specs.List.{AllZip}
 use Rattle.rn_merge.specs.declared.streams.ReadFault.{ReadFault}
 use Rattle.rn_merge.specs.declared.streams.ReadFault.TheVariants as reading

@@ -1,9 +1,7 @@
 -- What each job makes of the bytes of its files, what it writes of that, and the fault in its place.
-use Rattle.std.specs.Prelude.{◌≡◌, ◌⊎◌, ℕ, Bool, true, false, List, [], ◌∷◌, ◌++◌, map, IsOk, IsErrAnd, Option, Some, None, Result, Ok, Err, String, Vec, string_bytes}
+use Rattle.std.specs.Prelude.{◌≡◌, ◌⊎◌, ℕ, Bool, true, false, List, [], ◌∷◌, ◌++◌, map, IsOk, IsErrAnd, Option, Some, None, Result, Ok, Err, string_bytes}
 use Rattle.std.specs.List.{AllZip, flat_map}
 use Rattle.std.specs.Io.KnownBytes.{Appends}
-use Rattle.std.specs.Option.{option_map}
-use Rattle.std.specs.declared.alloc.Global.{Global}
 use Rattle.rn_modset.specs.Contributions.{Member}
 use Rattle.rn_modset.specs.Sets.{IsRefused}
 use Rattle.rn_modset.specs.BundleGrammar.{IsBundle}
@@ -44,10 +42,6 @@ abbrev pub Writes : {T : Type 0} → (List ℕ → Type 0) → (ProgramFault →
 Writes IsMade IsFault old new failed result = ((bytes : List ℕ) × IsMade bytes × IsWritten bytes old new failed result) ⊎ IsErrAnd result IsFault
 
 -- ---- jobs on one contribution
-
--- a contribution of a text, or of a withdrawal where there is none
-abbrev pub one_member : String Global → ℕ → Option (Vec ℕ Global) → Member
-one_member name revision text = record { name = string_bytes name; revision = revision; text = option_map (λ v. v.items) text }
 
 -- the bundle of the contribution alone
 abbrev pub IsBundleOf : Member → List ℕ → Type 0
@@ -122,9 +116,3 @@ KeepsOutput (Check file) result kept = kept
 KeepsOutput job (Ok x) kept = Unit {0}
 KeepsOutput job (Err failing.Write) kept = Unit {0}
 KeepsOutput job (Err fault) kept = kept
-
--- the same of what is written whatever the job
-abbrev pub KeepsAtFault : {T : Type 0} → Result T ProgramFault → Type 0 → Type 0
-KeepsAtFault (Ok x) kept = Unit {0}
-KeepsAtFault (Err failing.Write) kept = Unit {0}
-KeepsAtFault (Err fault) kept = kept

@@ -1,7 +1,8 @@
 // What each command does.
 ghost use Rattle.std.specs.Prelude.{◌≡◌, IfOk, false, string_bytes};
 ghost use Rattle.rn_merge.specs.Runs.{bundles_view};
-ghost use Rattle.rnc_merge.specs.Jobs.{IsBundleOf, IsChecked, IsPackFault, IsPerformed, IsPrinted, IsUnionBundle, IsUnionFault, IsUnionList, IsWritten, KeepsAtFault, KeepsOutput, Writes, list_lines, one_member};
+ghost use Rattle.rnc_merge.specs.Jobs.{IsBundleOf, IsChecked, IsPackFault, IsPerformed, IsPrinted, IsUnionBundle, IsUnionFault, IsUnionList, IsWritten, KeepsOutput, Writes, list_lines};
+ghost use Rattle.rnc_merge.specs.inside.Steps.{KeepsAtFault, one_member};
 
 use crate::inputs::{Inputs, read_file, read_files};
 use rn_merge::{

@@ -1,5 +1,4 @@
 // The files of the system.
-ghost use Rattle.std.specs.Prelude.{◌≡◌, false};
 
 use crate::inputs::Inputs;
 use rn_merge::{Input, MAX_INPUT, ReadFault, STANDARD_INPUT, read_input};
