@@ -12,17 +12,14 @@ returns-clause-run g c =
     let text = string_bytes c.in-Ok.text in (
       union,
       c.in_ok-union.ensures.ok,
-      text,
-      schema union text c.in-Ok.ensures.verdict,
-      subst (AppendsFront (g.W.Sink.contents c.args.out.now) (g.W.Sink.contents c.write_output.new.out)) c.as_bytes.ensures.value c.write_output.ensures.front,
-      c.in-Err-write_output.ensures.err,
+      (text, schema union text c.in-Ok.ensures.verdict, subst (AppendsFront (g.W.Sink.contents c.args.out.now) (g.W.Sink.contents c.write_output.new.out)) c.as_bytes.ensures.value c.write_output.ensures.front, c.in-Err-write_output.ensures.err),
     )
 
 pub returns-in-Err-clause-run : goal.returns-in-Err-clause-run
 returns-in-Err-clause-run g c =
     let union = c.in_ok-union.union in
     printed_run (bundles_view c.args.bundles.now) _ _ _ union _ c.in_ok-union.ensures.ok
-    (subst (IsPrinting union _ _ _) (sym c.refusal_outcome.ensures) (refused_printing _ _ _ union c.in-Err.refusal c.in-Err.ensures.verdict c.in-Err.ensures.first))
+    (subst (IsPrinting union _ _ _) (sym c.refusal_outcome.ensures) (refused_printing _ _ _ union c.in-Err.refusal c.in-Err.ensures.verdict))
 
 pub returns-in-Err-clause-kept : goal.returns-in-Err-clause-kept
 returns-in-Err-clause-kept g c =
@@ -35,8 +32,5 @@ returns-in-Ok-write_output-clause-run g c =
     let text = string_bytes c.in-Ok.text in (
       union,
       c.in_ok-union.ensures.ok,
-      text,
-      schema union text c.in-Ok.ensures.verdict,
-      subst (Appends (g.W.Sink.contents c.args.out.now) (g.W.Sink.contents c.write_output.new.out)) c.as_bytes.ensures.value c.in-Ok-write_output.ensures.ok,
-      c.in-Ok-write_output.ensures.sound,
+      (text, schema union text c.in-Ok.ensures.verdict, subst (Appends (g.W.Sink.contents c.args.out.now) (g.W.Sink.contents c.write_output.new.out)) c.as_bytes.ensures.value c.in-Ok-write_output.ensures.ok, c.in-Ok-write_output.ensures.sound),
     )
