@@ -8,7 +8,7 @@ use clap::error::ErrorKind;
 use clap::{Arg, ArgAction, ArgMatches, Command};
 use rn_assemble::Refusal;
 use rn_modset::{AddFault, BundleFault, parse_decimal};
-use std::alloc::{AllocError, Global};
+use std::alloc::{AllocError, AllocFailed, Global};
 use thiserror::Error;
 
 /// The word for standard input.
@@ -113,6 +113,17 @@ impl From<AllocError> for ProgramFault {
     ghost from_gives = { λ _ fault. fault ≡ Memory };
 
     fn from(_: AllocError) -> Self {
+        ProgramFault::Memory
+    }
+}
+
+impl<T: Drop> From<AllocFailed<T>> for ProgramFault {
+    ghost use Rattle.std.specs.Prelude.{◌≡◌};
+    ghost use Rattle.rn_merge.specs.declared.words.ProgramFault.TheVariants.{Memory};
+
+    ghost from_gives = { λ _ fault. fault ≡ Memory };
+
+    fn from(_: AllocFailed<T>) -> Self {
         ProgramFault::Memory
     }
 }

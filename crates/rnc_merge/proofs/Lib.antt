@@ -1,2 +1,1 @@
 mod ReadInputs
-mod WrittenJobs

@@ -1,5 +1,6 @@
 -- Files that are read one after the other.
 use Rattle.std.proofs.Common.{◌≡◌, ℕ, ◌+◌, ◌<◌, List, [], ◌∷◌, ◌++◌, length, map, take, get_or, String, Vec, string_bytes, refl, sym, ap, subst, ◌∙◌}
+use Rattle.std.specs.Prelude.{IsErrAnd, IfErr, Result, Ok, Err}
 use Rattle.std.specs.List.{AllZip}
 use Rattle.std.specs.Option.{option_map}
 use Rattle.std.specs.declared.alloc.Global.{Global}
@@ -39,3 +40,14 @@ module _ (gives : List ℕ → List ℕ → Type 0) (files : List (String Global
   -- the first file that isn't read
   pub first_unread : (refuses : List ℕ → ReadFault → Type 0) (fault : ProgramFault) → ((why : ReadFault) × refuses (string_bytes file) why × (fault ≡ input_fault i why)) → IsInputFault gives refuses (map string_bytes files) fault
   first_unread refuses fault (why, refused, is) = subst (IsInputFault gives refuses (map string_bytes files)) (sym is) (by_reason refuses why refused)
+
+-- an error that is this fault
+pub refused_at : {T : Type 0} (P : ProgramFault → Type 0) (result : Result T ProgramFault) (fault : ProgramFault) → IsErrAnd result (λ f. f ≡ fault) → P fault → IfErr result P
+refused_at P (Ok x) fault is p = tt
+refused_at P (Err f) fault is p = subst P (sym is) p
+
+-- what is known of the files' paths and of what they gave, at other names for both lists
+pub given_as : (gives : List ℕ → List ℕ → Type 0) (paths files : List (String Global)) (read inputs : List (Vec ℕ Global)) → paths ≡ files → inputs ≡ read
+    → AllZip gives (map string_bytes paths) (bundles_view read) → AllZip gives (map string_bytes files) (bundles_view inputs)
+given_as gives paths files read inputs e f h =
+    subst (λ l. AllZip gives (map string_bytes files) (bundles_view l)) (sym f) (subst (λ l. AllZip gives (map string_bytes l) (bundles_view read)) e h)

@@ -38,9 +38,7 @@ pub fn read_files<I: Inputs>(
     let mut read = Vec::with_capacity(alloc, files.len())?;
     for (index, file) in files.iter().enumerate() {
         let bytes = read_file(alloc, inputs, index, file.as_str())?;
-        if read.push(bytes).is_err() {
-            return Err(ProgramFault::Memory);
-        }
+        read.push(bytes)?;
     }
     Ok(read)
 }
