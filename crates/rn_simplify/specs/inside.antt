@@ -5,6 +5,7 @@ pub mod DefinitionNumbers
 pub mod FormKinds
 pub mod Gathers
 pub mod ListParts
+pub mod MarkedElements
 pub mod NodeKinds
 pub mod ReferredNames
 pub mod Repeats

@@ -1,19 +1,20 @@
 // From a grammar to its canonical grammar.
-ghost use Rattle.std.specs.Prelude.{◌≡◌, IfOk, length};
+ghost use Rattle.std.specs.Prelude.{◌≡◌, IfOk, bytes_eq, map};
+ghost use Rattle.std.specs.List.{IsDistinct};
 ghost use Rattle.rn_assemble.specs.GrammarView.{definitions_view, grammar_view};
 ghost use Rattle.rn_pattern.specs.Matching.{ValidAlike};
 ghost use Rattle.rn_pattern.specs.Reached.{IsCanonicalOf};
 ghost use Rattle.rn_pattern.specs.Store.{KeepsIds};
 ghost use Rattle.rn_pattern.specs.View.{pattern_view};
 ghost use Rattle.rn_simplify.specs.NormalView.{normal_view};
-ghost use Rattle.rn_simplify.specs.inside.DefinitionForms.{HasForms};
+ghost use Rattle.rn_simplify.specs.inside.DefinitionForms.{HaveForms};
 ghost use Rattle.rn_simplify.specs.inside.FormKinds.{becomes, settled_form};
 ghost use Rattle.rn_simplify.specs.inside.Repeats.{AreFirstsOf};
 
 use crate::evaluation::settle_all;
 use crate::joined_bodies::canonical_body;
 use crate::normal::Normal;
-use crate::reachable::reached_definitions;
+use crate::reachable::reached_forms;
 use crate::rebuilding::rebuild;
 use crate::settled_definitions::{DefinitionId, SettledDefinitions};
 use rn_assemble::Grammar;
@@ -46,9 +47,15 @@ pub fn normalise_in<P: Patterns>(
     ensures kept { KeepsIds P.knows P.tree_of store.old store.new }
 {
     let settled = settle_all(alloc, grammar)?;
-    let start = body_form(alloc, store, &settled, grammar.start(), grammar.start_firsts())?;
+    let start = body_form(
+        alloc,
+        store,
+        &settled,
+        grammar.start(),
+        grammar.start_firsts(),
+    )?;
     let forms = definition_forms(alloc, store, &settled, grammar)?;
-    let defs = reached_definitions(alloc, settled.definitions, &start, forms)?;
+    let defs = reached_forms(alloc, settled.definitions, &start, forms)?;
     Ok(Normal { start, defs })
 }
 
@@ -69,37 +76,47 @@ fn body_form<P: Patterns>(
     rebuild(alloc, store, form)
 }
 
-/// The canonical form of each definition that the start reaches, by the definition's id.
+/// The definitions, each of those that the start reaches with its canonical form.
 fn definition_forms<P: Patterns>(
     alloc: Global,
     store: &mut P,
     settled: &SettledDefinitions<'_>,
     grammar: &Grammar,
-) -> Result<Vec<Pattern>, AllocError>
+) -> Result<Vec<(String, Pattern)>, AllocError>
     requires { definitions_view settled.now.definitions.now.entries
         ≡ (grammar_view grammar.now).definitions }
-    ensures size { IfOk result (λ forms. length forms.items
-        ≡ length settled.now.definitions.now.entries) }
-    ensures made { IfOk result (λ forms. HasForms (grammar_view grammar.now)
-        (becomes settled.now) forms.items) }
+    ensures named { IfOk result (λ forms. map (λ d. d.0) (definitions_view forms.items)
+        ≡ map (λ d. d.0) (definitions_view settled.now.definitions.now.entries)) }
+    ensures distinct { IfOk result
+        (λ forms. IsDistinct bytes_eq (map (λ d. d.0) (definitions_view forms.items))) }
+    ensures made { IfOk result (λ forms. HaveForms (grammar_view grammar.now)
+        (becomes settled.now) (definitions_view forms.items)) }
     ensures kept { KeepsIds P.knows P.tree_of store.old store.new }
 {
     let order = grammar.settling_order();
-    let mut forms = no_forms(alloc, settled.definitions.len())?;
+    let mut forms = unformed(alloc, settled)?;
     for index in order {
         let body = settled.body_of(DefinitionId(*index));
-        forms[*index] = body_form(alloc, store, settled, body, grammar.firsts(*index))?;
+        let form = body_form(alloc, store, settled, body, grammar.firsts(*index))?;
+        forms[*index].1 = form;
     }
     Ok(forms)
 }
 
-/// So many forms that are not made yet.
-fn no_forms(alloc: Global, count: usize) -> Result<Vec<Pattern>, AllocError>
-    ensures { IfOk result (λ forms. length forms.items ≡ count) }
+/// The names of the definitions, without their forms yet.
+fn unformed(
+    alloc: Global,
+    settled: &SettledDefinitions<'_>,
+) -> Result<Vec<(String, Pattern)>, AllocError>
+    ensures named { IfOk result (λ forms. map (λ d. d.0) (definitions_view forms.items)
+        ≡ map (λ d. d.0) (definitions_view settled.now.definitions.now.entries)) }
+    ensures distinct { IfOk result
+        (λ forms. IsDistinct bytes_eq (map (λ d. d.0) (definitions_view forms.items))) }
 {
-    let mut forms = Vec::with_capacity(alloc, count)?;
-    for _ in 0..count {
-        forms.push(Pattern::NotAllowed)?;
+    let mut forms = Vec::with_capacity(alloc, settled.definitions.len())?;
+    for index in 0..settled.definitions.len() {
+        let name = settled.name_of(DefinitionId(index)).clone()?;
+        forms.push((name, Pattern::NotAllowed))?;
     }
     Ok(forms)
 }

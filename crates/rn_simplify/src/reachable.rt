@@ -1,14 +1,15 @@
 // The definitions that are reached through canonical forms (RELAX NG 2001, 4.19).
-ghost use Rattle.std.specs.Prelude.{◌≡◌, IfOk, IsPermutation, OnOk, bytes_eq, length, map};
+ghost use Rattle.std.specs.Prelude.{◌≡◌, ◌∷◌, [], IfOk, IsPermutation, OnOk, bytes_eq, drop, length, map};
 ghost use Rattle.std.specs.List.{IsDistinct};
 ghost use Rattle.std.specs.List.Sorted.{IsStrictlySortedBy};
-ghost use Rattle.rn_pattern.specs.Graph.{rows_of};
+ghost use Rattle.std.specs.Slice.Iter.{iter_rest};
+ghost use Rattle.rn_pattern.specs.Graph.{is_marked, rows_of};
 ghost use Rattle.rn_assemble.specs.GrammarView.{definitions_view};
 ghost use Rattle.rn_pattern.specs.Reached.{IsPruned};
 ghost use Rattle.rn_pattern.specs.View.{pattern_view};
 ghost use Rattle.rn_text.specs.Texts.{text_cmp};
-ghost use Rattle.rn_simplify.specs.inside.DefinitionForms.{form_rows, formed_definitions, marked_elements};
-ghost use Rattle.rn_simplify.specs.inside.DefinitionNumbers.{MarksReached, reference_numbers};
+ghost use Rattle.rn_simplify.specs.inside.DefinitionNumbers.{MarksReached, reference_numbers, rows_by};
+ghost use Rattle.rn_simplify.specs.inside.MarkedElements.{marked_elements};
 
 use crate::references::add_references;
 use rn_assemble::Definitions;
@@ -16,96 +17,99 @@ use rn_pattern::graph::reached_nodes;
 use rn_pattern::{Pattern, Rows};
 use std::alloc::{AllocError, Global};
 
-/// The definitions that the start reaches, with their canonical forms, in the order of their names. The forms are by the
-/// definitions' ids.
-pub(crate) fn reached_definitions(
+/// The forms that the start reaches, in the order of their names. The forms have the names of the definitions, in their
+/// order.
+pub(crate) fn reached_forms(
     alloc: Global,
     definitions: &Definitions,
     start: &Pattern,
-    forms: Vec<Pattern>,
+    mut forms: Vec<(String, Pattern)>,
 ) -> Result<Vec<(String, Pattern)>, AllocError>
-    requires { length forms.items ≡ length definitions.now.entries }
+    requires named { map (λ d. d.0) (definitions_view forms.items)
+        ≡ map (λ d. d.0) (definitions_view definitions.now.entries) }
+    requires distinct { IsDistinct bytes_eq (map (λ d. d.0) (definitions_view forms.items)) }
     ensures { IfOk result (λ defs. IsPruned
-        (record {
-          start = pattern_view start.now;
-          definitions = formed_definitions definitions.now.entries forms.items;
-        })
+        (record { start = pattern_view start.now; definitions = definitions_view forms.items })
         (record { start = pattern_view start.now; definitions = definitions_view defs.items })) }
 {
     let is_reached = mark_reached(alloc, definitions, start, &forms)?;
-    let mut defs = marked_definitions(alloc, definitions, forms, &is_reached)?;
-    sort_by_name(&mut defs)?;
-    Ok(defs)
+    keep_marked(&mut forms, &is_reached);
+    sort_by_name(&mut forms)?;
+    Ok(forms)
 }
 
-/// For each form, whether the start reaches its definition.
+/// For each form, whether the start reaches it.
 fn mark_reached(
     alloc: Global,
     definitions: &Definitions,
     start: &Pattern,
-    forms: &[Pattern],
+    forms: &[(String, Pattern)],
 ) -> Result<Vec<bool>, AllocError>
-    requires { length forms.now ≡ length definitions.now.entries }
+    requires { map (λ d. d.0) (definitions_view forms.now)
+        ≡ map (λ d. d.0) (definitions_view definitions.now.entries) }
     ensures size { IfOk result (λ marks. length marks.items ≡ length forms.now) }
     ensures reached { IfOk result
         (λ marks. MarksReached (record {
           start = pattern_view start.now;
-          definitions = formed_definitions definitions.now.entries forms.now;
+          definitions = definitions_view forms.now;
         }) marks.items) }
 {
-    let mut first = Rows::new(alloc);
-    add_references(&mut first, definitions, start)?;
-    first.end_row()?;
     let rows = references_of_forms(alloc, definitions, forms)?;
+    let first = references_of(alloc, definitions, start)?;
     reached_nodes(alloc, &rows, first.row(0))
 }
 
-/// The references of each form.
+/// The references of each form: the adjacency lists of a graph of the definitions.
 fn references_of_forms(
     alloc: Global,
     definitions: &Definitions,
-    forms: &[Pattern],
+    forms: &[(String, Pattern)],
 ) -> Result<Rows, AllocError>
     ensures { IfOk result (λ rows. rows_of rows
-        ≡ form_rows (definitions_view definitions.now.entries) forms.now) }
+        ≡ rows_by (definitions_view definitions.now.entries) (definitions_view forms.now)) }
 {
     let mut rows = Rows::with_capacity(alloc, forms.len())?;
-    for form in forms {
+    for (_, form) in forms {
         add_references(&mut rows, definitions, form)?;
         rows.end_row()?;
     }
     Ok(rows)
 }
 
-/// The definitions that are marked, with their forms.
-fn marked_definitions(
+/// One row, of the references of a pattern.
+fn references_of(
     alloc: Global,
     definitions: &Definitions,
-    forms: Vec<Pattern>,
-    marks: &[bool],
-) -> Result<Vec<(String, Pattern)>, AllocError>
-    requires sized { length forms.items ≡ length definitions.now.entries }
-    requires marked { length marks.now ≡ length definitions.now.entries }
-    ensures { IfOk result (λ defs. definitions_view defs.items
-        ≡ marked_elements marks.now
-        (formed_definitions definitions.now.entries forms.items)) }
+    pattern: &Pattern,
+) -> Result<Rows, AllocError>
+    ensures { IfOk result (λ rows. rows_of rows ≡ reference_numbers
+        (definitions_view definitions.now.entries) (pattern_view pattern.now) ∷ []) }
 {
-    let mut defs = Vec::new(alloc);
-    for (index, form) in forms.into_iter().enumerate() {
-        if marks[index] {
-            let (name, _) = definitions.get_index(index).unwrap();
-            defs.push((name.clone()?, form))?;
-        }
-    }
-    Ok(defs)
+    let mut rows = Rows::new(alloc);
+    add_references(&mut rows, definitions, pattern)?;
+    rows.end_row()?;
+    Ok(rows)
 }
 
-/// Puts definitions whose names differ in the order of their names.
-fn sort_by_name(defs: &mut Vec<(String, Pattern)>) -> Result<(), AllocError>
-    ensures moved { IsPermutation defs.old.items defs.new.items }
+/// Puts forms whose names differ in the order of their names.
+fn sort_by_name(forms: &mut Vec<(String, Pattern)>) -> Result<(), AllocError>
+    ensures moved { IsPermutation forms.old.items forms.new.items }
     ensures rising { OnOk result
-        (IsDistinct bytes_eq (map (λ d. d.0) (definitions_view defs.new.items))
-        → IsStrictlySortedBy text_cmp (map (λ d. d.0) (definitions_view defs.new.items))) }
+        (IsDistinct bytes_eq (map (λ d. d.0) (definitions_view forms.new.items))
+        → IsStrictlySortedBy text_cmp (map (λ d. d.0) (definitions_view forms.new.items))) }
 {
-    defs.sort_by(|a: &(String, Pattern), b: &(String, Pattern)| a.0.cmp(&b.0))
+    forms.sort_by(|a: &(String, Pattern), b: &(String, Pattern)| a.0.cmp(&b.0))
+}
+
+/// Removes the forms that are not marked.
+fn keep_marked(forms: &mut Vec<(String, Pattern)>, marks: &[bool])
+    ensures { forms.new.items ≡ marked_elements marks.now forms.old.items }
+{
+    let mut marks = marks.iter();
+    forms.retain(
+        move |_|
+            ensures is { result ≡ is_marked (iter_rest marks.entry) 0 }
+            ensures rest { iter_rest marks.exit ≡ drop 1 (iter_rest marks.entry) }
+        { marks.next().copied().unwrap_or(false) },
+    );
 }

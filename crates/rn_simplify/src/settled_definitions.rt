@@ -24,7 +24,7 @@ pub(crate) struct SettledDefinitions<'g> {
 }
 
 impl<'g> SettledDefinitions<'g> {
-    ghost use Rattle.std.specs.Prelude.{◌≡◌, ◌<◌, IfOk, length, slice_index_or, slice_set};
+    ghost use Rattle.std.specs.Prelude.{◌≡◌, ◌<◌, IfOk, length, slice_index_or, slice_set, string_bytes};
     ghost use Rattle.rn_assemble.specs.GrammarView.{definitions_view};
     ghost use Rattle.rn_pattern.specs.Tree.{Tree};
     ghost use Rattle.rn_pattern.specs.View.{pattern_view};
@@ -46,6 +46,16 @@ impl<'g> SettledDefinitions<'g> {
             kinds,
             all_stay: true,
         })
+    }
+
+    /// The name of a definition.
+    pub(crate) fn name_of(&self, id: DefinitionId) -> &'g String
+        requires { id.0 < length self.now.definitions.now.entries }
+        ensures { (d : Text × Tree) → string_bytes result.now
+            ≡ (slice_index_or (definitions_view self.now.definitions.now.entries) id.0 d).0 }
+    {
+        let (name, _) = self.definitions.get_index(id.0).unwrap();
+        name
     }
 
     /// The body of a definition.

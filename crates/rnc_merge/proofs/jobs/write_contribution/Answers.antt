@@ -1,4 +1,4 @@
-use Rattle.std.proofs.Common.{◌≡◌, [], ◌∷◌, ◌∙◌, ap, inl, subst, sym}
+use Rattle.std.proofs.Common.{[], ◌∷◌, ◌∙◌, ap, inl, subst, sym}
 use Rattle.rn_modset.specs.BundleGrammar.{IsBundle}
 use Rattle.rn_modset.specs.Sets.{with_member}
 use Rattle.rnc_merge.specs.inside.Steps.{one_member}
