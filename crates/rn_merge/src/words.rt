@@ -180,8 +180,8 @@ pub fn plan(alloc: Global, words: &[String]) -> Result<Job, ProgramFault>
     }
 }
 
-/// Whether there is a command of this name. Of any other name clap would look for one that is like
-/// it, and would leave that out where memory for it is refused.
+/// Whether there is a command of this name. For any other name clap would look for one that is like
+/// it, and may answer the same where memory for that is refused.
 fn is_command(word: &str) -> bool {
     COMMANDS.iter().any(|command| command.0 == word)
 }
