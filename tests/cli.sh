@@ -164,12 +164,13 @@ row 'an empty path' 3 '' 'read 0\n' check ''
 row 'a folder' 3 '' 'read 0\n' check folder
 row 'a folder among bundles' 3 '' 'read 1\n' list t.set folder
 if [ -w /dev/full ]; then
-    for words in 'print ab.set' 'join ab.set' 'list ab.set' 'withdraw a 1'; do
+    for words in 'print ab.set' 'join ab.set' 'list ab.set' 'withdraw a 1' 'pack t 7 t.rnc'; do
         # shellcheck disable=SC2086
         "$program" $words >/dev/full 2>got.err </dev/null
         status=$?
         if [ "$status" -eq 3 ] && [ "$(cat got.err)" = write ]; then pass; else fail "$words to a full device: status $status"; fi
     done
+    if "$program" check a.rnc >/dev/full 2>got.err </dev/null && [ ! -s got.err ]; then pass; else fail 'check writes nothing'; fi
 fi
 
 # ---- memory

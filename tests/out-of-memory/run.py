@@ -4,10 +4,9 @@
 tests/out-of-memory/run.py [PROGRAM [TESTS..]]: runs each job of a table with its first request for memory refused, then its second, and so on
 until a run asks no further, each once alone and once with all requests after it. A run in which a request was refused ends with status 3, the
 line `Memory` on standard error and nothing on standard output, also where there is another fault. A request is spared where the run goes on
-without it and has the job's own answer: only those that the parser of words makes for texts of its own may be, and one of `print`,
-for a block that is given back at once. TESTS are the tests' programs: in each of their tests whose module's name begins with `memory_of_` the
-requests between the marks are refused in the same way, none may be spared, and the test tells whether a call answered so. Without words it takes
-what `rt ci` built.
+without it and has the job's own answer. SPARED says how many of each job may be, and why; of any other job none may be, and a job that spares
+fewer fails too. TESTS are the tests' programs: in each of their tests whose module's name begins with `memory_of_` the requests between the marks
+are refused in the same way, none may be spared, and the test tells whether a call answered so. Without words it takes what `rt ci` built.
 Needs Python 3 and a system that loads a library before a program (LD_PRELOAD); the compiler is the toolchain's.
 """
 import collections
@@ -126,7 +125,19 @@ JOBS = [
     (["print", "-", "-"], {}, refused("usage: -", 2)),
     (["pack", "t", "07", "text"], {}, refused("usage: REV", 2)),
     (["zap"], {}, refused("usage", 2)),
+    (["help"], {}, refused("usage", 2)),
+    (["--help"], {}, refused("usage", 2)),
+    (["print"], {}, refused("usage", 2)),
+    (["print", "-x"], {}, refused("usage", 2)),
+    (["print", "--help"], {}, refused("usage", 2)),
+    (["pack", "t", "7"], {}, refused("usage", 2)),
+    (["check", "one", "one"], {"one": ONE}, refused("usage", 2)),
 ]
+
+# A file of 3 bytes is read into room for 8, and the rest is given back: where the system refuses to do that, the room stays.
+OF_ROOM = "room of a short file that isn't given back"
+# How many requests each job goes on without, and why.
+SPARED = {"check text0": (1, OF_ROOM), "pack t 7 text": (1, OF_ROOM), "pack a b 7 text": (1, OF_ROOM)}
 
 
 def run(words, room, shim, number, goes_on, marks):
@@ -157,12 +168,13 @@ def tried(words, room, shim, is_own, is_want, goes_on, marks):
             return number, spared, f"request {number}{' and all behind it' if goes_on else ''} refused: answered {found}"
 
 
-def told(name, words, room, shim, is_own, is_want, marks):
-    """Tries a job in both ways and prints a line of it: how many requests it makes and can spare, and whether each run was as it must be."""
+def told(name, words, room, shim, is_own, is_want, marks, may_spare=0):
+    """Tries a job in both ways and prints a line of it: how many requests it makes and spares, which are as many as it may, and whether each run was as
+    it must be."""
     requests, spared, wrong = tried(words, room, shim, is_own, is_want, False, marks)
     wrong = wrong or tried(words, room, shim, is_own, is_want, True, marks)[2]
-    if spared and marks:
-        wrong = wrong or f"{spared} of {requests} requests are spared"
+    if spared != may_spare:
+        wrong = wrong or f"{spared} of {requests} requests are spared, not {may_spare}"
     print(f"{'FAILED ' if wrong else ''}{name}: {wrong or f'{requests} requests, {spared} of them spared'}", flush=True)
     return Told(not wrong, requests, spared)
 
@@ -226,7 +238,8 @@ def main():
         of_jobs, of_tests = [], []
         for words, wanted in jobs(program, room):
             name = f"{' '.join(words)} {(wanted[1] or wanted[2]).decode().splitlines()[-1:]}"
-            of_jobs.append(told(name, [program, *words], room, shim, wanted.__eq__, WANT.__eq__, {}))
+            may_spare, _ = SPARED.get(" ".join(words), (0, None))
+            of_jobs.append(told(name, [program, *words], room, shim, wanted.__eq__, WANT.__eq__, {}, may_spare))
         for of in tests:
             of_tests += [told_of_test(of, test, room, shim) for test in tests_of(of)]
     summed("the program", of_jobs)

@@ -10,7 +10,6 @@ pub mod DefinedNames
 pub mod FirstComponents
 pub mod DistinctNames
 pub mod KeyedDefinitions
-pub mod NamedDefinitions
 pub mod HeldStart
 pub mod SharedPatterns
 pub mod SameBodies

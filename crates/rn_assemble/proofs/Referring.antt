@@ -13,6 +13,5 @@ pub mod LeastKeys
 pub mod MarkedPlaces
 pub mod KeyOrders
 pub mod DefinitionNumbers
-pub mod ListedNames
 pub mod RowsByKey
 pub mod DefinedOrder

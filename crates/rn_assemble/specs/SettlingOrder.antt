@@ -16,10 +16,11 @@ number_of ds x = position (bytes_eq x) (map (λ d. d.0) ds)
 abbrev pub holds : List ℕ → ℕ → Bool
 holds ns k = list_any (nat_eq k) ns
 
--- numbers of definitions, each once: all that are reached, each behind those that its definition refers to outside elements
+-- numbers of definitions, each once: exactly those that are reached, each behind those that its definition refers to outside elements
 pub record IsSettlingOrder (G : Grammar) (order : List ℕ) : Type 0 where
   pub within : (i : ℕ) → i < length order → slice_index_or order i 0 < length G.definitions
   pub once : (i j : ℕ) → i < j → j < length order → slice_index_or order i 0 ≢ slice_index_or order j 0
   pub listed : (x : Text) (k : ℕ) → IsReached G x → number_of G.definitions x ≡ Some k → holds order k ≡ true
+  pub reached : (i : ℕ) (x : Text) → i < length order → number_of G.definitions x ≡ Some (slice_index_or order i 0) → ∥ IsReached G x ∥₁
   pub behind : (i k : ℕ) (x y : Text) (p : Tree) → i < length order → number_of G.definitions x ≡ Some (slice_index_or order i 0) → lookup (bytes_eq x) G.definitions ≡ Some p → RefersOutside y p
       → number_of G.definitions y ≡ Some k → holds (take i order) k ≡ true

@@ -3,8 +3,7 @@
 pub mod Bodies
 pub mod Checked
 pub mod Coded
-pub mod CombinedDefinitions
-pub mod CombinedView
+pub mod JoinedDefinitions
 pub mod Contained
 pub mod ContextBindings
 pub mod Covered

@@ -1,48 +1,48 @@
-// The patterns of all keys, combined, with the names of the definitions.
-ghost use Rattle.std.specs.Prelude.{◌≡◌, ◌<◌, ◌≤◌, true, length, string_bytes, List, IfOk, MatchResult, OnOk};
-ghost use Rattle.indexmap.specs.IndexMap.{set_value_at};
+// The grammar to which the components of all keys are joined.
+ghost use Rattle.std.specs.Prelude.{◌≡◌, ◌∷◌, ◌++◌, [], false, true, bytes_eq, map, List, MatchResult, OnOk};
+ghost use Rattle.std.specs.List.{list_any};
+ghost use Rattle.rn_text.specs.Texts.{Text};
+ghost use Rattle.rn_pattern.specs.Tree.{Tree};
 ghost use Rattle.rn_pattern.specs.View.{pattern_view};
-ghost use Rattle.rn_assemble.specs.Combine.{defined_names};
-ghost use Rattle.rn_assemble.specs.Components.{Component, has_key, start_key};
+ghost use Rattle.rn_assemble.specs.Components.{has_key, start_key};
 ghost use Rattle.rn_assemble.specs.DefinitionsView.{definitions_view};
-ghost use Rattle.rn_assemble.specs.inside.CombinedDefinitions.{AreDefinitions, with_names};
-ghost use Rattle.rn_assemble.specs.inside.Tied.{AreMet, HasRow, firsts_of};
-ghost use Rattle.rn_assemble.specs.inside.Joining.{CanBeSettled, IsCombinedGrammar, IsMisnamed};
+ghost use Rattle.rn_assemble.specs.inside.JoinedDefinitions.{AreDefinitions};
+ghost use Rattle.rn_assemble.specs.inside.Tied.{AreMet};
+ghost use Rattle.rn_assemble.specs.inside.Joining.{CanBeJoined, IsJoinedGrammar, IsMisnamed};
 ghost use Rattle.rn_assemble.specs.inside.Listed.{OfTrees};
 ghost use Rattle.rn_assemble.specs.inside.Trees.{trees_by};
 ghost use Rattle.rn_assemble.specs.inside.Patterns.{AfterStart};
 ghost use Rattle.rn_assemble.specs.inside.ReferenceOrder.{AreDefinedKeys};
 ghost use Rattle.rn_assemble.specs.inside.Views.{names_of};
 
-use crate::combined_grammar::Combined;
 use crate::combining::Combining;
 use crate::components::Components;
 use crate::firsts::Met;
+use crate::grammar::{Definitions, Grammar};
 use crate::keys::{Keys, START};
 use crate::refusal::Refusal;
-use crate::settling_order::SettlingOrder;
 use crate::trees::Trees;
-use rn_pattern::Pattern;
+use indexmap::IndexMap;
+use rn_pattern::{Pattern, Seed};
 use std::alloc::{AllocError, Global};
 
-/// How many bytes a name has room for at least: as many as a boxed `Pat` takes, so that a name lies where a tree was.
-const NAME_ROOM: usize = 32;
-
-/// The combined patterns of all keys, those of names in the order of `defined`. The tree of each component is given up
-/// once it was resolved. The order in which they can be settled is given.
-pub(crate) fn combined_grammar(
+/// The grammar to which the components of all keys are joined, its definitions in the order of `defined`. The tree of
+/// each component is dropped once it was resolved. The order in which the definitions can be settled is given, and the
+/// seed by which their names are hashed.
+pub(crate) fn joined_grammar(
     alloc: Global,
     keys: &Keys<'_>,
     components: &Components<'_, '_, '_>,
     trees: &mut Trees<'_>,
     defined: &[usize],
-    order: SettlingOrder,
-) -> Result<Combined, Refusal>
-    requires { CanBeSettled (names_of keys.now) (trees_by trees.old.trees.items) components.now
-        defined.now order.numbers.items }
+    order: Vec<usize>,
+    seed: &Seed,
+) -> Result<Grammar, Refusal>
+    requires { CanBeJoined (names_of keys.now) (trees_by trees.old.trees.items) components.now
+        defined.now order.items }
     ensures { OfTrees keys.now (trees_by trees.old.trees.items) components.now
         (λ names cs. AreDefinedKeys names cs defined.now → has_key start_key cs ≡ true
-        → MatchResult result (IsCombinedGrammar cs) (IsMisnamed cs)) }
+        → MatchResult result (IsJoinedGrammar cs) (IsMisnamed cs)) }
 {
     let mut combining = Combining::new(alloc, components)?;
     let start = combining
@@ -50,7 +50,7 @@ pub(crate) fn combined_grammar(
         .unwrap();
     let mut met = components.nothing_met(alloc)?;
     let start_firsts = components.firsts(alloc, START, &mut met)?;
-    let (definitions, firsts) = definitions(
+    let (defs, firsts) = definitions(
         alloc,
         keys,
         components,
@@ -58,10 +58,11 @@ pub(crate) fn combined_grammar(
         defined,
         &mut combining,
         &mut met,
+        seed,
     )?;
-    Ok(Combined {
+    Ok(Grammar {
         start,
-        definitions,
+        defs,
         start_firsts,
         firsts,
         order,
@@ -79,93 +80,42 @@ fn definitions(
     defined: &[usize],
     combining: &mut Combining,
     met: &mut Met,
-) -> Result<(Vec<(String, Pattern)>, Vec<Vec<u32>>), Refusal>
+    seed: &Seed,
+) -> Result<(Definitions, Vec<Vec<u32>>), Refusal>
     requires { AreMet components.now.list components.now.places.items met.old.items }
     ensures { AfterStart keys.now (trees_by trees.old.trees.items) components.now combining.old
         (λ cs. AreDefinedKeys (names_of keys.now) cs defined.now → MatchResult result
-        (λ made. AreDefinitions cs made.0.items made.1.items) (IsMisnamed cs)) }
+        (λ made. AreDefinitions cs made.0.entries made.1.items) (IsMisnamed cs)) }
 {
-    let mut definitions = unnamed_definitions(alloc, defined.len())?;
-    let mut firsts = Vec::new(alloc);
+    let mut defs = IndexMap::with_capacity_and_hasher(alloc, defined.len(), *seed)?;
+    let mut firsts = Vec::with_capacity(alloc, defined.len())?;
     for number in 0..defined.len() {
         let key = defined[number];
         if let Some(pattern) = combining.combine_or_note(alloc, keys, components, trees, key)? {
             let found = components.firsts(alloc, key, met)?;
-            keep_row(alloc, &mut firsts, number, found)?;
-            put_body(&mut definitions, number, pattern);
+            firsts.push(found)?;
+            define(alloc, &mut defs, keys.name(key), pattern)?;
         }
     }
-    if let Some(refusal) = combining.refusal(alloc, keys) {
-        return Err(refusal);
+    match combining.refusal(alloc, keys) {
+        Some(refusal) => Err(refusal),
+        None => Ok((defs, firsts)),
     }
-    name_definitions(alloc, keys, defined, &mut definitions)?;
-    Ok((definitions, firsts))
 }
 
-/// As many definitions as are asked for, with no names as yet, each with `empty` for its body.
-fn unnamed_definitions(alloc: Global, count: usize) -> Result<Vec<(String, Pattern)>, AllocError>
-    ensures { IfOk result (λ ds. length ds.items ≡ count) }
-{
-    let mut definitions = Vec::with_capacity(alloc, count)?;
-    for _ in 0..count {
-        definitions.push((String::new(alloc), Pattern::Empty))?;
-    }
-    Ok(definitions)
-}
-
-/// Puts a body into the definition with a number.
-fn put_body(definitions: &mut Vec<(String, Pattern)>, number: usize, body: Pattern)
-    requires { number < length definitions.old.items }
-    ensures count { length definitions.new.items ≡ length definitions.old.items }
-    ensures bodies { definitions_view definitions.new.items
-        ≡ set_value_at (definitions_view definitions.old.items) number (pattern_view body) }
-{
-    definitions[number].1 = body;
-}
-
-/// Gives each definition the name of its key. Made behind the bodies, names lie where trees were given up.
-fn name_definitions(
+/// Adds the definition of a name, behind those of others.
+fn define(
     alloc: Global,
-    keys: &Keys<'_>,
-    defined: &[usize],
-    definitions: &mut Vec<(String, Pattern)>,
+    defs: &mut Definitions,
+    name: &str,
+    body: Pattern,
 ) -> Result<(), AllocError>
-    requires { length definitions.old.items ≡ length defined.now }
-    ensures { OnOk result ((cs : List Component) → AreDefinedKeys (names_of keys.now) cs defined.now
-        → definitions_view definitions.new.items
-        ≡ with_names (defined_names cs) (definitions_view definitions.old.items)) }
+    ensures { OnOk result (list_any (bytes_eq name.now)
+        (map (λ (d : Text × Tree). d.0) (definitions_view defs.old.entries)) ≡ false
+        → definitions_view defs.new.entries ≡ definitions_view defs.old.entries
+        ++ (name.now, pattern_view body) ∷ []) }
 {
-    for number in 0..defined.len() {
-        definitions[number].0 = roomy_name(alloc, keys.name(defined[number]))?;
-    }
-    Ok(())
-}
-
-/// A copy of a name, with room for `NAME_ROOM` bytes at least.
-fn roomy_name(alloc: Global, name: &str) -> Result<String, AllocError>
-    ensures { IfOk result (λ copy. string_bytes copy ≡ name.now) }
-{
-    let mut copy = String::with_capacity(alloc, name.len().max(NAME_ROOM))?;
-    copy.push_str(name)?;
-    Ok(copy)
-}
-
-/// Keeps a row at its number, behind all others. An empty one takes no memory.
-fn keep_row(
-    alloc: Global,
-    rows: &mut Vec<Vec<u32>>,
-    number: usize,
-    row: Vec<u32>,
-) -> Result<(), AllocError>
-    ensures { length rows.old.items ≤ number → IfOk result (λ _. HasRow
-        (firsts_of rows.old.items) (firsts_of rows.new.items) number row.items) }
-{
-    if row.is_empty() {
-        return Ok(());
-    }
-    for _ in rows.len()..number {
-        rows.push(Vec::new(alloc))?;
-    }
-    rows.push(row)?;
+    let name = String::from_str(alloc, name)?;
+    defs.insert(name, body)?;
     Ok(())
 }

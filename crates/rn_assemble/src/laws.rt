@@ -11,6 +11,8 @@ ghost use Rattle.rn_syntax.specs.Places.{except_places};
 ghost use Rattle.rn_assemble.specs.Components.{Key, Component, NamedModule, components_within, has_key, instances_within, set_components, start_key};
 ghost use Rattle.rn_assemble.specs.Combine.{IsCombination, IsPlainTwice, IsMixed, joined_grammar, components_of, AreDistinct};
 ghost use Rattle.rn_assemble.specs.WellFormed.{IsWellFormed, HasWritableTexts};
+ghost use Rattle.rn_assemble.specs.Renamed.{IsRenaming};
+ghost use Rattle.rn_assemble.specs.ShortTexts.{IsKnown, IsTable, ShortTexts, long_uri};
 ghost use Rattle.rn_assemble.specs.Refusal.{Refusal, Stands, IsFirst, IsFirstFor, IsAssembled, AreModules, grammar_of};
 
 /// Components may be combined in any pairs and in any order: each combination is valid for exactly the documents of the
@@ -81,4 +83,10 @@ pub fn grammars_of_sets_are_well_formed()
         → HasWritableTexts (grammar_of modules) }
     ensures well_formed { (s : List Member) (modules : List NamedModule) → AreModules s modules
         → ((r : Refusal) → ¬ Stands s r) → IsWellFormed (grammar_of modules) }
+{}
+
+/// Short texts take the places of URIs as another name takes that of each: known texts keep their order, and the
+/// namespaces and libraries that mean something by themselves keep their own texts.
+pub fn tables_rename()
+    ensures { (es : ShortTexts) → IsTable es → IsRenaming (long_uri es) (IsKnown es) }
 {}

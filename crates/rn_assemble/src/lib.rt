@@ -3,7 +3,6 @@
 
 pub mod assembly;
 mod bodies;
-mod combined_grammar;
 mod combining;
 mod components;
 mod constants;
@@ -16,10 +15,7 @@ mod firsts;
 pub mod grammar;
 mod inclusion;
 mod instances;
-mod joined_definitions;
-mod joined_grammar;
 mod keys;
-mod likely_references;
 mod methods;
 mod named_modules;
 mod nodes;
@@ -38,12 +34,8 @@ mod shortening;
 mod trees;
 
 pub use assembly::{ShortGrammar, assemble, assemble_short};
-pub use grammar::Grammar;
-pub use grammar::definition_list::DefinitionList;
-pub use grammar::listed_grammar::{Listed, ListedGrammar, ListedParts};
+pub use grammar::{Definitions, Grammar};
 pub use instances::INSTANCE_LIMIT;
-pub use joined_grammar::Definitions;
-pub use likely_references::LikelyReferences;
 pub use refusal::{Key, Refusal};
 pub use short_uris::{MAX_KEPT_URI, ShortUris};
 

@@ -17,20 +17,10 @@ ghost use Rattle.rn_assemble.specs.inside.Views.{names_of};
 
 use crate::components::{Components, Near};
 use crate::keys::{Keys, START};
-use crate::likely_references::LikelyReferences;
 use rn_pattern::graph::{marked_rows, reached_nodes};
 use rn_pattern::ranks::{Order, least_looped, ranks};
 use rn_pattern::{ReferenceRows, Rows};
 use std::alloc::{AllocError, Global};
-
-/// References to names that are all defined, none of which start reaches and comes back to itself outside elements.
-#[derive(Drop)]
-pub(crate) struct SoundReferences {
-    /// For each key, the keys that it refers to.
-    pub everywhere: Rows,
-    /// The keys that start reaches, each behind those that it refers to outside elements.
-    pub order: Vec<usize>,
-}
 
 /// An order of keys, or what stands against one.
 #[derive(Drop)]
@@ -115,33 +105,21 @@ fn marked_places(alloc: Global, marks: &[bool]) -> Result<Vec<usize>, AllocError
     Ok(places)
 }
 
-/// The order in which the definitions of a grammar can be settled, and what they refer to.
-#[derive(Drop)]
-pub(crate) struct SettlingOrder {
-    /// The numbers of the definitions that the start reaches, each behind those that it refers to outside elements.
-    pub numbers: Vec<usize>,
-    /// Where to look first for what is referred to.
-    pub likely: LikelyReferences,
-}
-
-/// The order in which the definitions that components are joined to can be settled, from that of their keys; `defined`
-/// are the keys of the definitions.
+/// The order in which the definitions that components are joined to can be settled: the indices of definitions in that
+/// of their keys, which is given. `defined` are the keys of all definitions.
 pub(crate) fn settling_order(
     alloc: Global,
     keys: &Keys<'_>,
     defined: &[usize],
-    references: SoundReferences,
-) -> Result<SettlingOrder, AllocError>
+    order: &[usize],
+) -> Result<Vec<usize>, AllocError>
     ensures { (cs : List Component) → IsStrictlySortedBy text_cmp (names_of keys.now)
         → AreDefinedKeys (names_of keys.now) cs defined.now
-        → IsReferenceOrder (names_of keys.now) cs references.order.items
-        → IfOk result (λ s. IsSettlingOrder (joined_grammar cs) s.numbers.items) }
+        → IsReferenceOrder (names_of keys.now) cs order.now
+        → IfOk result (λ s. IsSettlingOrder (joined_grammar cs) s.items) }
 {
-    let SoundReferences { everywhere, order } = references;
     let numbers = definition_numbers(alloc, keys.len(), defined)?;
-    let likely = LikelyReferences::new(alloc, &everywhere, defined, &numbers)?;
-    let numbers = numbers_of(alloc, &order, &numbers)?;
-    Ok(SettlingOrder { numbers, likely })
+    numbers_of(alloc, order, &numbers)
 }
 
 /// The keys of the names that the components define, in the order of each one's first component.

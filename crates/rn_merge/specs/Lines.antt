@@ -12,7 +12,6 @@ use Rattle.rn_syntax.specs.declared.fault.FaultKind.{FaultKind}
 use Rattle.rn_syntax.specs.Faults.{kind_name}
 use Rattle.rn_assemble.specs.declared.refusal.Key.{Key}
 use Rattle.rn_assemble.specs.declared.refusal.Refusal.{Refusal}
-use Rattle.rn_assemble.specs.Refused.{fault_of}
 use Rattle.rn_merge.specs.declared.text_faults.Place.{Place}
 use Rattle.rn_merge.specs.TextFaults.{kind_and_place}
 use Rattle.rn_merge.specs.declared.words.ProgramFault.{ProgramFault}
@@ -33,13 +32,16 @@ key_field (Define name) = identifier (string_bytes name)
 
 -- ---- refusals: the name, and the fields behind it
 
--- where the text of a module is refused, of the kind of its fault
-abbrev pub fault_name : Option (FaultKind × List ℕ) → List ℕ
-fault_name (Some fault) = kind_name fault.0
-fault_name None = []
-
 abbrev pub refusal_name : Refusal → List ℕ
 refusal_name (refusing.Conflict m revision) = codes "Conflict"
+refusal_name (refusing.Encoding m) = codes "Encoding"
+refusal_name (refusing.Lexical m) = codes "Lexical"
+refusal_name (refusing.Deep m) = codes "Deep"
+refusal_name (refusing.Syntax m) = codes "Syntax"
+refusal_name (refusing.Prefix m) = codes "Prefix"
+refusal_name (refusing.Builtin m) = codes "Builtin"
+refusal_name (refusing.ContextValue m) = codes "ContextValue"
+refusal_name (refusing.Except m) = codes "Except"
 refusal_name (refusing.Missing m wanted) = codes "Missing"
 refusal_name (refusing.Cycle m) = codes "Cycle"
 refusal_name refusing.Instances = codes "Instances"
@@ -53,16 +55,18 @@ refusal_name (refusing.NameClass key) = codes "NameClass"
 refusal_name refusing.OutputTooLarge = codes "OutputTooLarge"
 refusal_name refusing.OutputTooDeep = codes "OutputTooDeep"
 refusal_name refusing.Memory = codes "Memory"
-refusal_name refusal = fault_name (fault_of refusal)
-
--- the module whose text is refused
-abbrev pub fault_fields : Option (FaultKind × List ℕ) → List (List ℕ)
-fault_fields (Some fault) = fault.1 ∷ []
-fault_fields None = []
 
 -- a key is `start` or an identifier, a wanted name is a literal
 abbrev pub refusal_fields : Refusal → List (List ℕ)
 refusal_fields (refusing.Conflict m revision) = string_bytes m ∷ decimal revision ∷ []
+refusal_fields (refusing.Encoding m) = string_bytes m ∷ []
+refusal_fields (refusing.Lexical m) = string_bytes m ∷ []
+refusal_fields (refusing.Deep m) = string_bytes m ∷ []
+refusal_fields (refusing.Syntax m) = string_bytes m ∷ []
+refusal_fields (refusing.Prefix m) = string_bytes m ∷ []
+refusal_fields (refusing.Builtin m) = string_bytes m ∷ []
+refusal_fields (refusing.ContextValue m) = string_bytes m ∷ []
+refusal_fields (refusing.Except m) = string_bytes m ∷ []
 refusal_fields (refusing.Missing m wanted) = string_bytes m ∷ literal_bytes (string_bytes wanted) ∷ []
 refusal_fields (refusing.Cycle m) = string_bytes m ∷ []
 refusal_fields (refusing.Override m key) = string_bytes m ∷ key_field key ∷ []
@@ -76,7 +80,6 @@ refusal_fields refusing.NoStart = []
 refusal_fields refusing.OutputTooLarge = []
 refusal_fields refusing.OutputTooDeep = []
 refusal_fields refusing.Memory = []
-refusal_fields refusal = fault_fields (fault_of refusal)
 
 -- one space between the name and each field
 abbrev pub refusal_line : Refusal → List ℕ

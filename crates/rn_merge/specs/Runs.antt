@@ -15,7 +15,7 @@ use Rattle.rn_merge.specs.declared.run.RunFault.TheVariants.{Bundle, Full, Memor
 use Rattle.rn_merge.specs.declared.run.Status.{Status}
 use Rattle.rn_merge.specs.declared.run.Status.TheVariants.{Done, Refused}
 use Rattle.rn_merge.specs.Streams.{AppendsFront}
-use Rattle.rn_merge.specs.Schemas.{IsSchemaOfSet, RefusesFirst}
+use Rattle.rn_merge.specs.Schemas.{IsSchemaOfSet}
 use Rattle.rn_merge.specs.Verdicts.{verdict_view}
 
 -- the bytes of each bundle
@@ -72,11 +72,10 @@ HasNoUnion bundles Full = IsTooMany bundles
 HasNoUnion bundles Memory = Unit {0}
 HasNoUnion bundles Write = ⊥
 
--- what printing a set comes to: its schema was written, all of it; or there is a refusal, which is the first of the set, or its
--- schema would be too long or too deep; or there is a schema, of which the sink took a front and then failed
+-- what printing a set comes to: its schema was written, all of it; or its verdict is a refusal; or there is a schema, of which the sink took a front and then failed
 abbrev pub IsPrinting : List Member → Option (List ℕ) → Option (List ℕ) → Bool → Result Status RunFault → Type 0
 IsPrinting s old new failed (Ok Done) = (text : List ℕ) × IsSchemaOfSet s text × Appends old new text × (failed ≡ false)
-IsPrinting s old new failed (Ok (Refused refusal)) = IsSomeAnd (verdict_view refusal) (IsVerdict s) × RefusesFirst s refusal
+IsPrinting s old new failed (Ok (Refused refusal)) = IsSomeAnd (verdict_view refusal) (IsVerdict s)
 IsPrinting s old new failed (Err Write) = (text : List ℕ) × IsSchemaOfSet s text × AppendsFront old new text × (failed ≡ true)
 IsPrinting s old new failed (Err Memory) = Unit {0}
 IsPrinting s old new failed (Err fault) = ⊥

@@ -1,15 +1,17 @@
 // Laws of merging, over what `merge` and `run_print` promise.
-ghost use Rattle.std.specs.Prelude.{◌≡◌, ◌≢◌, ◌↔◌, ℕ, Bool, Contains, List, Option};
+ghost use Rattle.std.specs.Prelude.{◌≡◌, ◌≢◌, ◌↔◌, ℕ, Bool, Contains, IsSomeAnd, List, Option};
 ghost use Rattle.rn_modset.specs.Contributions.{Member};
 ghost use Rattle.rn_modset.specs.Laws.{Call};
 ghost use Rattle.rn_pattern.specs.Matching.{Grammar};
 ghost use Rattle.rn_pattern.specs.Reached.{IsCanonicalOf};
 ghost use Rattle.rn_assemble.specs.Refusal.{IsAssembled, IsFirst, Refusal, Stands};
+ghost use Rattle.rn_assemble.specs.declared.refusal.Refusal as code;
 ghost use Rattle.rn_assemble.specs.declared.refusal.Refusal.TheVariants as refusing;
 ghost use Rattle.rn_simplify.specs.Verdict.{IsVerdict, Verdict};
 ghost use Rattle.rn_merge.specs.Laws.{AreSame, BringAlike, BringSame, Brings, IsLeftBy, Tells};
 ghost use Rattle.rn_merge.specs.Runs.{HasNoUnion, IsRun, IsUnion};
-ghost use Rattle.rn_merge.specs.Verdicts.{Answer, answer_view, IsAnswer};
+ghost use Rattle.rn_merge.specs.Schemas.{RefusesFirst};
+ghost use Rattle.rn_merge.specs.Verdicts.{Answer, answer_view, IsAnswer, verdict_view};
 ghost use Rattle.rn_merge.specs.declared.run.RunFault.{RunFault};
 ghost use Rattle.rn_merge.specs.declared.run.RunFault.TheVariants as failing;
 ghost use Rattle.rn_merge.specs.declared.run.Status.{Status};
@@ -24,6 +26,13 @@ pub fn every_set_has_a_verdict()
     ensures grammar { (s : List Member) → ((q : Refusal) → ¬ Stands s q)
         → ¬ ((g : Grammar) → ¬ IsAssembled s g) }
     ensures canonical { (g : Grammar) → ¬ ((n : Grammar) → ¬ IsCanonicalOf g n) }
+{}
+
+/// A refusal that is the verdict of a set is the first that stands for it, of those of modules; where
+/// the text would be too long or too deep, none of modules stands.
+pub fn verdicts_refuse_first()
+    ensures { (s : List Member) (q : code.Refusal) → IsSomeAnd (verdict_view q) (IsVerdict s)
+        → RefusesFirst s q }
 {}
 
 /// Lists of calls of `add` and `join` that answered Ok and brought the same contributions, in any

@@ -3,7 +3,6 @@
 
 pub mod laws;
 pub mod lines;
-pub mod memory;
 pub mod run;
 pub mod streams;
 pub mod text_faults;
@@ -12,11 +11,10 @@ pub mod verdict;
 pub mod words;
 
 pub use lines::{fault_line, list_line, refusal_line, status};
-pub use memory::keep_large_lists;
-pub use run::{RunFault, Status, print_last, print_set, read_bundles, run_print};
+pub use run::{RunFault, Status, read_bundles, run_print};
 pub use streams::{
     Failed, Input, MAX_INPUT, Output, ReadFault, Sink, Source, read_input, write_output,
 };
-pub use text_faults::{Place, check, check_last};
+pub use text_faults::{Place, check};
 pub use verdict::merge;
 pub use words::{Job, ProgramFault, STANDARD_INPUT, copies, plan};

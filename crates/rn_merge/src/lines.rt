@@ -22,12 +22,20 @@ pub fn refusal_line(alloc: Global, refusal: &Refusal) -> Result<String, AllocErr
     Ok(line)
 }
 
-/// The name of a refusal: where the text of a module is refused, of the kind of its fault.
+/// The name of a refusal.
 fn refusal_name(refusal: &Refusal) -> &'static str
     ensures { result.now ≡ refusal_name refusal.now }
 {
     match refusal {
         Refusal::Conflict { .. } => "Conflict",
+        Refusal::Encoding { .. } => "Encoding",
+        Refusal::Lexical { .. } => "Lexical",
+        Refusal::Deep { .. } => "Deep",
+        Refusal::Syntax { .. } => "Syntax",
+        Refusal::Prefix { .. } => "Prefix",
+        Refusal::Builtin { .. } => "Builtin",
+        Refusal::ContextValue { .. } => "ContextValue",
+        Refusal::Except { .. } => "Except",
         Refusal::Missing { .. } => "Missing",
         Refusal::Cycle { .. } => "Cycle",
         Refusal::Instances => "Instances",
@@ -41,10 +49,6 @@ fn refusal_name(refusal: &Refusal) -> &'static str
         Refusal::OutputTooLarge => "OutputTooLarge",
         Refusal::OutputTooDeep => "OutputTooDeep",
         Refusal::Memory => "Memory",
-        _ => match refusal.fault() {
-            Some((kind, _)) => kind.name(),
-            None => unreachable!(),
-        },
     }
 }
 
@@ -59,7 +63,15 @@ fn push_fields(line: &mut String, refusal: &Refusal) -> Result<(), AllocError>
             push_word(line, module.as_str())?;
             write!(line, " {revision}")
         }
-        Refusal::Cycle { module } => push_word(line, module.as_str()),
+        Refusal::Encoding { module }
+        | Refusal::Lexical { module }
+        | Refusal::Deep { module }
+        | Refusal::Syntax { module }
+        | Refusal::Prefix { module }
+        | Refusal::Builtin { module }
+        | Refusal::ContextValue { module }
+        | Refusal::Except { module }
+        | Refusal::Cycle { module } => push_word(line, module.as_str()),
         Refusal::Missing { module, wanted } => {
             push_word(line, module.as_str())?;
             line.push_str(" ")?;
@@ -80,10 +92,6 @@ fn push_fields(line: &mut String, refusal: &Refusal) -> Result<(), AllocError>
         | Refusal::OutputTooLarge
         | Refusal::OutputTooDeep
         | Refusal::Memory => Ok(()),
-        _ => match refusal.fault() {
-            Some((_, module)) => push_word(line, module),
-            None => unreachable!(),
-        },
     }
 }
 

@@ -2,11 +2,11 @@
 ghost use Rattle.std.specs.Prelude.{◌≡◌, ◌≤◌, false, length, IfOk, IfErr};
 ghost use Rattle.rn_modset.specs.Limits.{max_contributions};
 ghost use Rattle.rn_modset.specs.Sets.{IsNotJoined, IsSet, union};
-ghost use Rattle.rn_merge.specs.Runs.{bundles_view, IsUnion, HasNoUnion, IsPrinting, IsRun, LeavesSink};
+ghost use Rattle.rn_merge.specs.Runs.{bundles_view, IsUnion, HasNoUnion, IsRun, LeavesSink};
 ghost use Rattle.rn_merge.specs.inside.Outcomes.{refusal_outcome};
 
 use crate::streams::{Sink, write_output};
-use crate::verdict::{Afterwards, verdict_of};
+use crate::verdict::merge;
 use rn_assemble::Refusal;
 use rn_modset::{AddFault, BundleFault, ModuleSet, read_bundle};
 use std::alloc::Global;
@@ -91,58 +91,12 @@ fn united(mut held: ModuleSet, other: ModuleSet) -> Result<ModuleSet, AddFault>
     Ok(held)
 }
 
-/// Writes the schema of a set to a sink that has not failed, or answers the refusal that is the
-/// set's verdict, of modules the first that stands. What is written has all that `merge` promises
-/// of a text. `Memory` where a request for memory was refused; `Write` where the sink has failed,
-/// which then took a front of the text. In all other cases but `Done` nothing is written, and the
-/// sink is what it was.
-pub fn print_set<W: Sink>(alloc: Global, set: &ModuleSet, out: &mut W) -> Result<Status, RunFault>
-    requires { W.has_failed out.old ≡ false }
-    ensures printing { IsPrinting set.now (W.contents out.old) (W.contents out.new)
-        (W.has_failed out.new) result }
-    ensures kept { LeavesSink result (out.new ≡ out.old) }
-{
-    print_as(alloc, set, Afterwards::GiveBack, out)
-}
-
-/// Writes the schema of a set as [`print_set`] does, for a program that ends then. The memory of the
-/// schema's patterns is not given back but left to the system, which takes it in one step, where
-/// giving it back takes one for each pattern. Whoever goes on after it lacks that memory, each time
-/// anew; print with `print_set` then.
-pub fn print_last<W: Sink>(alloc: Global, set: &ModuleSet, out: &mut W) -> Result<Status, RunFault>
-    requires { W.has_failed out.old ≡ false }
-    ensures printing { IsPrinting set.now (W.contents out.old) (W.contents out.new)
-        (W.has_failed out.new) result }
-    ensures kept { LeavesSink result (out.new ≡ out.old) }
-{
-    print_as(alloc, set, Afterwards::Leave, out)
-}
-
-/// Writes the schema of a set, and gives the memory of its patterns back or leaves it.
-fn print_as<W: Sink>(
-    alloc: Global,
-    set: &ModuleSet,
-    afterwards: Afterwards,
-    out: &mut W,
-) -> Result<Status, RunFault>
-    requires { W.has_failed out.old ≡ false }
-    ensures printing { IsPrinting set.now (W.contents out.old) (W.contents out.new)
-        (W.has_failed out.new) result }
-    ensures kept { LeavesSink result (out.new ≡ out.old) }
-{
-    let text = match verdict_of(alloc, set, afterwards) {
-        Ok(text) => text,
-        Err(refusal) => return refusal_outcome(refusal),
-    };
-    match write_output(out, text.as_bytes()) {
-        Ok(()) => Ok(Status::Done),
-        Err(_) => Err(RunFault::Write),
-    }
-}
-
-/// Writes the schema of the union of the bundles to a sink that has not failed, as [`print_set`]
-/// writes that of a set. `Bundle` and `Full` where the bundles have no union, as [`read_bundles`]
-/// says them. In all cases but `Done` and `Write` nothing is written, and the sink is what it was.
+/// Writes the schema of the union of the bundles to a sink that has not failed, or answers the
+/// refusal that is the union's verdict, of modules the first that stands. What is written has all
+/// that [`merge`] promises of a text. `Bundle` and `Full` where the bundles have no union, as
+/// [`read_bundles`] says them; `Memory` where a request for memory was refused; `Write` where the
+/// sink has failed, which then took a front of the text. In all cases but `Done` and `Write` nothing
+/// is written, and the sink is what it was.
 pub fn run_print<W: Sink>(
     alloc: Global,
     bundles: &[Vec<u8>],
@@ -154,10 +108,17 @@ pub fn run_print<W: Sink>(
     ensures kept { LeavesSink result (out.new ≡ out.old) }
 {
     let union = read_bundles(alloc, bundles)?;
-    print_set(alloc, &union, out)
+    let text = match merge(alloc, &union) {
+        Ok(text) => text,
+        Err(refusal) => return refusal_outcome(refusal),
+    };
+    match write_output(out, text.as_bytes()) {
+        Ok(()) => Ok(Status::Done),
+        Err(_) => Err(RunFault::Write),
+    }
 }
 
-/// What a run comes to where `merge` refuses the union: want of memory is no refusal of the
+/// What a run comes to where `merge` refuses the union: that memory ran out is no refusal of the
 /// modules.
 fn refusal_outcome(refusal: Refusal) -> Result<Status, RunFault>
     ensures { result ≡ refusal_outcome refusal }

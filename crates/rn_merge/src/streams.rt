@@ -6,6 +6,7 @@ ghost use Rattle.rn_merge.specs.declared.streams.TheConstants.{MAX_INPUT};
 
 use std::alloc::{AllocError, Global};
 use std::io::{Read, Write};
+use thiserror::Error;
 
 /// How many bytes are asked for at once.
 const PIECE: usize = 65_536;
@@ -14,17 +15,21 @@ const PIECE: usize = 65_536;
 pub const MAX_INPUT: usize = 268_435_456;
 
 /// A source or a sink did not do what it was asked for.
-#[derive(Clone, Copy, Debug, PartialEq, Eq)]
+#[derive(Clone, Copy, Debug, PartialEq, Eq, Error)]
+#[error("the source or the sink failed")]
 pub struct Failed;
 
 /// Why no input was read.
-#[derive(Clone, Copy, Debug, PartialEq, Eq)]
+#[derive(Clone, Copy, Debug, PartialEq, Eq, Error)]
 pub enum ReadFault {
     /// The source failed.
+    #[error("the input can't be read")]
     Read,
     /// The source gave more bytes than the limit.
+    #[error("the input is too large")]
     Large,
     /// A request for memory was refused.
+    #[error("out of memory")]
     Memory,
 }
 

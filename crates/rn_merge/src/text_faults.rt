@@ -1,11 +1,10 @@
 // The fault of one module text.
-ghost use Rattle.std.specs.Prelude.{◌≡◌, OnOk, IfErr, IfOk};
+ghost use Rattle.std.specs.Prelude.{◌≡◌, OnOk, IfErr};
 ghost use Rattle.rn_merge.specs.TextFaults.{IsGood, HasPlace, kind_and_place, place_of};
 
-use rn_syntax::{FaultKind, Module, SyntaxFault, parse};
+use rn_syntax::{FaultKind, SyntaxFault, parse};
 use rn_text::{TextFault, tokens};
 use std::alloc::Global;
-use std::mem::forget;
 use thiserror::Error;
 
 /// What is wrong with a module text. The first kind in this order that stands is answered, at its
@@ -116,26 +115,7 @@ pub fn check(alloc: Global, text: &[u8]) -> Result<(), Place>
     ensures ok { OnOk result (IsGood text.now) }
     ensures err { IfErr result (HasPlace text.now) }
 {
-    drop(module_of(alloc, text)?);
-    Ok(())
-}
-
-/// The first fault of a module text as [`check`] says it, for a program that ends then. The memory
-/// of the module's tree is not given back but left to the system, which takes it in one step.
-/// Whoever goes on after it lacks that memory, each time anew; use `check` then.
-pub fn check_last(alloc: Global, text: &[u8]) -> Result<(), Place>
-    ensures ok { OnOk result (IsGood text.now) }
-    ensures err { IfErr result (HasPlace text.now) }
-{
-    forget(module_of(alloc, text)?);
-    Ok(())
-}
-
-/// The module of a text, or the first fault of the text.
-fn module_of<'t>(alloc: Global, text: &'t [u8]) -> Result<Module<'t>, Place>
-    ensures ok { IfOk result (λ _. IsGood text.now) }
-    ensures err { IfErr result (HasPlace text.now) }
-{
     let tokens = tokens(alloc, text)?;
-    Ok(parse(alloc, tokens.as_slice())?)
+    drop(parse(alloc, tokens.as_slice())?);
+    Ok(())
 }

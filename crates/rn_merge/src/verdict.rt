@@ -6,9 +6,8 @@ ghost use Rattle.rn_merge.specs.Verdicts.{IsAnswer};
 
 use rn_assemble::{Refusal, ShortGrammar, assemble_short};
 use rn_modset::ModuleSet;
-use rn_simplify::{Normal, into_normal, print_long};
+use rn_simplify::{normalise, print_long};
 use std::alloc::Global;
-use std::mem::forget;
 
 /// The verdict of the set: its flat schema in the canonical text, or the first refusal that stands,
 /// or `OutputTooLarge` or `OutputTooDeep` where the text would be more than may be printed.
@@ -29,47 +28,7 @@ pub fn merge(alloc: Global, set: &ModuleSet) -> Result<String, Refusal>
     ensures alone { IfOk result (λ text. IsPrintedAlone (string_bytes text)) }
     ensures first { IfErr result (RefusesFirst set.now) }
 {
-    verdict_of(alloc, set, Afterwards::GiveBack)
-}
-
-/// What becomes of the memory of a canonical grammar once its text is made.
-#[derive(Clone, Copy)]
-pub(crate) enum Afterwards {
-    /// It is given back, pattern by pattern.
-    GiveBack,
-    /// It is left to the system, which takes it in one step when the program ends.
-    Leave,
-}
-
-impl Afterwards {
-    /// Gives the memory of a canonical grammar back, or leaves it.
-    fn part_with(self, normal: Normal) {
-        match self {
-            Afterwards::GiveBack => drop(normal),
-            Afterwards::Leave => forget(normal),
-        }
-    }
-}
-
-/// The verdict of the set, as [`merge`] says it, and the memory of its canonical grammar given back
-/// or left.
-pub(crate) fn verdict_of(
-    alloc: Global,
-    set: &ModuleSet,
-    afterwards: Afterwards,
-) -> Result<String, Refusal>
-    ensures verdict { IsAnswer set.now result }
-    ensures documents { IfOk result (λ text. IsReadAgain set.now (string_bytes text)) }
-    ensures unrefused { IfOk result (λ text. IsUnrefused set.now) }
-    ensures plain_once { IfOk result (λ text. DefinesPlainlyOnce set.now) }
-    ensures one_method { IfOk result (λ text. CombinesByOneMethod set.now) }
-    ensures again { IfOk result (λ text. IsPrintedAgain (string_bytes text)) }
-    ensures alone { IfOk result (λ text. IsPrintedAlone (string_bytes text)) }
-    ensures first { IfErr result (RefusesFirst set.now) }
-{
     let ShortGrammar { grammar, uris } = assemble_short(alloc, set)?;
-    let normal = into_normal(alloc, grammar)?;
-    let text = print_long(alloc, &normal, &uris);
-    afterwards.part_with(normal);
-    text
+    let normal = normalise(alloc, &grammar)?;
+    print_long(alloc, &normal, &uris)
 }

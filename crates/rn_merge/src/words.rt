@@ -8,7 +8,7 @@ use clap::error::ErrorKind;
 use clap::{Arg, ArgAction, ArgMatches, Command};
 use rn_assemble::Refusal;
 use rn_modset::{AddFault, BundleFault, parse_decimal};
-use std::alloc::{AllocError, Global};
+use std::alloc::{AllocError, AllocFailed, Global};
 use thiserror::Error;
 
 /// The word for standard input.
@@ -117,6 +117,17 @@ impl From<AllocError> for ProgramFault {
     }
 }
 
+impl<T: Drop> From<AllocFailed<T>> for ProgramFault {
+    ghost use Rattle.std.specs.Prelude.{◌≡◌};
+    ghost use Rattle.rn_merge.specs.declared.words.ProgramFault.TheVariants.{Memory};
+
+    ghost from_gives = { λ _ fault. fault ≡ Memory };
+
+    fn from(_: AllocFailed<T>) -> Self {
+        ProgramFault::Memory
+    }
+}
+
 impl From<clap::Error> for ProgramFault {
     ghost use Rattle.std.specs.Prelude.{◌≡◌};
     ghost use Rattle.clap.specs.Words.{kind_of};
@@ -134,7 +145,7 @@ impl From<clap::Error> for ProgramFault {
 
 impl From<RunFault> for ProgramFault {
     ghost use Rattle.std.specs.Prelude.{◌≡◌};
-    ghost use Rattle.rn_merge.specs.inside.Outcomes.{run_fault};
+    ghost use Rattle.rn_merge.specs.ProgramFaults.{run_fault};
 
     ghost from_gives = { λ fault r. r ≡ run_fault fault };
 
@@ -159,11 +170,20 @@ pub fn plan(alloc: Global, words: &[String]) -> Result<Job, ProgramFault>
         let files = copies(alloc, [STANDARD_INPUT].as_slice())?;
         return Ok(Job::Print { files });
     }
+    if !is_command(words[0].as_str()) {
+        return Err(ProgramFault::Usage);
+    }
     let matches = program(alloc)?.try_get_matches_from(words)?;
     match matches.subcommand() {
         Some((command, words)) => command_job(alloc, command, words),
         None => Err(ProgramFault::Usage),
     }
+}
+
+/// Whether there is a command of this name. For any other name clap would look for one that is like
+/// it, and may answer the same where memory for that is refused.
+fn is_command(word: &str) -> bool {
+    COMMANDS.iter().any(|command| command.0 == word)
 }
 
 /// The commands and their words.

@@ -5,11 +5,10 @@ pub mod SettledMore
 pub mod SettlingOrder
 pub mod RankOrder
 pub mod FormedGrammar
-pub mod FormsInPlace
 pub mod ReferenceGraph
 pub mod ReferredIn
 pub mod DefinitionNumbers
-pub mod Marks
+pub mod DefinitionForms
 pub mod StoreIds
 pub mod PrunedForms
 pub mod Repeats

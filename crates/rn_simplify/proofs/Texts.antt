@@ -11,5 +11,4 @@ pub mod OpenAtOnce
 pub mod Members
 pub mod GatheredTexts
 pub mod GatheredForms
-pub mod MovedDefinitions
 pub mod Views

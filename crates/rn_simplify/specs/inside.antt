@@ -1,5 +1,6 @@
 -- What contracts of private functions speak of: references by numbers, kinds of forms, what lists hold, what is gathered and written. No public contract cites it.
 pub mod Contents
+pub mod DefinitionForms
 pub mod DefinitionNumbers
 pub mod FormKinds
 pub mod Gathers

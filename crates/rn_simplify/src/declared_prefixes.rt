@@ -6,6 +6,7 @@ ghost use Rattle.rn_assemble.specs.ShortTexts.{IsTable, long_uri, short_texts};
 ghost use Rattle.rn_simplify.specs.NormalView.{normal_view};
 ghost use Rattle.rn_simplify.specs.inside.Writes.{declaration_lines, prefixes_view, Writes, WritesBytes, none};
 
+use crate::mentions::Mentions;
 use crate::normal::Normal;
 use crate::writer::Writer;
 use indexmap::IndexSet;
@@ -90,10 +91,11 @@ impl Prefixes {
         ensures empty { IfOk result (λ f. f.empty_namespace
             ≡ has_empty_ns_name (normal_view normal.now)) }
     {
+        let mentions = Mentions::of(alloc, &normal.start, &normal.defs)?;
         Ok(Prefixes {
-            namespaces: declared_texts(alloc, &normal.mentions.namespaces, XML_URI)?,
-            libraries: declared_texts(alloc, &normal.mentions.libraries, XSD_URI)?,
-            empty_namespace: normal.mentions.has_empty_ns_name,
+            namespaces: declared_texts(alloc, &mentions.namespaces, XML_URI)?,
+            libraries: declared_texts(alloc, &mentions.libraries, XSD_URI)?,
+            empty_namespace: mentions.has_empty_ns_name,
         })
     }
 

@@ -7,10 +7,9 @@ ghost use Rattle.rn_pattern.specs.View.{pattern_view, shared_view, shared_trees}
 ghost use Rattle.rn_simplify.specs.inside.FormKinds.{settled_form, settled_forms};
 ghost use Rattle.rn_simplify.specs.inside.Repeats.{AreFirstsAmong, AreFirstsOf};
 
-use crate::list_kind::ListKind;
 use crate::repeated_members::{distinct_members, first_of};
 use crate::settled_definitions::SettledDefinitions;
-use crate::stored_forms::{canonical_form, list_form};
+use crate::stored_forms::{ListKind, canonical_form, list_form};
 use rn_pattern::{Pattern, Patterns};
 use std::alloc::{AllocError, Global};
 use std::rc::Rc;

@@ -15,13 +15,13 @@ use std::rc::Rc;
 pub(crate) struct Mentions {
     pub(crate) namespaces: BTreeSet<String>,
     pub(crate) libraries: BTreeSet<String>,
-    /// Whether an nsName of the empty namespace stands in a name class.
+    /// A name class has an nsName of the empty namespace.
     pub(crate) has_empty_ns_name: bool,
 }
 
 impl Mentions {
     /// What a start mentions.
-    pub(crate) fn of_start(alloc: Global, start: &Pattern) -> Result<Mentions, AllocError>
+    fn of_start(alloc: Global, start: &Pattern) -> Result<Mentions, AllocError>
         ensures { IfOk result (λ m. mentions_view m ≡ gathered (record {
           start = pattern_view start.now;
           definitions = [];
@@ -67,7 +67,7 @@ impl Mentions {
     }
 
     #[cycle(add_pattern)]
-    pub(crate) fn add_pattern(&mut self, alloc: Global, pattern: &Pattern) -> Result<(), AllocError>
+    fn add_pattern(&mut self, alloc: Global, pattern: &Pattern) -> Result<(), AllocError>
         ensures { OnOk result (Gathers (by_tree (pattern_view pattern.now)) self.old self.new) }
     {
         match pattern {

@@ -1,11 +1,8 @@
-// The canonical grammar: its start, its definitions in the order of their names, what they mention, and what they keep.
-ghost use Rattle.std.specs.Prelude.{◌≡◌};
+// The canonical grammar: its start, its definitions in the order of their names, and what they keep.
 ghost use Rattle.rn_assemble.specs.inside.OneProof.{IsWellFormed-prop};
 ghost use Rattle.rn_assemble.specs.WellFormed.{IsWellFormed};
 ghost use Rattle.rn_simplify.specs.NormalParts.{HasSource, parts_view};
-ghost use Rattle.rn_simplify.specs.inside.Gathers.{gathered, mentions_view};
 
-use crate::mentions::Mentions;
 use rn_pattern::Pattern;
 
 /// A grammar in its canonical form: the start, and the definitions that are reached from it. It is the canonical
@@ -15,14 +12,10 @@ use rn_pattern::Pattern;
 pub struct Normal {
     pub(crate) start: Pattern,
     pub(crate) defs: Vec<(String, Pattern)>,
-    /// The namespaces and the datatype libraries that the start and the definitions mention.
-    pub(crate) mentions: Mentions,
     /// Every reference is defined, no loop is reached, excepts and name classes keep their restrictions.
     pub ghost well_formed: { IsWellFormed (parts_view start defs.items) } by { IsWellFormed-prop _ },
     /// It is the canonical grammar of a well-formed grammar whose texts can be written.
     pub ghost source: { ∥ HasSource (parts_view start defs.items) ∥₁ },
-    /// The mentions are those of its start and its definitions.
-    ghost known: { mentions_view mentions ≡ gathered (parts_view start defs.items) },
 }
 
 impl Normal {

@@ -10,13 +10,39 @@ ghost use Rattle.rn_simplify.specs.inside.Contents.{content_of, is_leaf};
 ghost use Rattle.rn_simplify.specs.inside.ListParts.{members_step, parts, parts_of};
 ghost use Rattle.rn_simplify.specs.inside.FormKinds.{becomes, settled_form, settled_forms};
 
-use crate::definition_numbers::Likely;
 use crate::form_kind::FormKind;
-use crate::list_kind::ListKind;
 use crate::settled_definitions::SettledDefinitions;
 use rn_pattern::{Pattern, Patterns};
 use std::alloc::{AllocError, Global};
 use std::rc::Rc;
+
+/// A kind of list (RELAX NG 2001, 4.12).
+#[derive(Clone, Copy)]
+pub(crate) enum ListKind {
+    Group,
+    Interleave,
+    Choice,
+}
+
+impl ListKind {
+    ghost use Rattle.std.specs.Prelude.{IfOk, map};
+    ghost use Rattle.rn_pattern.specs.Store.{KeepsIds, KnowsAll, StandsFor};
+    ghost use Rattle.rn_simplify.specs.inside.ListParts.{members_step};
+
+    /// The id of the canonical form of a list of this kind, by the ids of the canonical forms of its parts.
+    fn form_over<P: Patterns>(self, store: &mut P, parts: &[P::Id]) -> Result<P::Id, AllocError>
+        requires { KnowsAll (P.knows store.old) parts.now }
+        ensures made { IfOk result (StandsFor (P.knows store.new) (P.tree_of store.new)
+            (members_step self (map (P.tree_of store.old) parts.now))) }
+        ensures kept { KeepsIds P.knows P.tree_of store.old store.new }
+    {
+        match self {
+            ListKind::Group => store.group(parts),
+            ListKind::Interleave => store.ileave(parts),
+            ListKind::Choice => store.choice(parts),
+        }
+    }
+}
 
 /// What a reference becomes: notAllowed or empty if that is the form of its definition, else itself.
 fn reference_form<P: Patterns>(
@@ -28,7 +54,7 @@ fn reference_form<P: Patterns>(
         (becomes settled.now name.now)) }
     ensures kept { KeepsIds P.knows P.tree_of store.old store.new }
 {
-    match settled.kind_of(&mut Likely::of_none(settled.likely), name) {
+    match settled.kind_of(name) {
         FormKind::NotAllowed => store.not_allowed(),
         FormKind::Empty => store.empty(),
         FormKind::Other => store.reference(name),

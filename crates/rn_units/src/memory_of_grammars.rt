@@ -2,6 +2,7 @@
 // tests/out-of-memory loads before the tests' program. A call that is refused answers want of memory, in its own type, and a store
 // keeps its patterns. Without a refusal, as in the gate, it gives its own answer. Each test tells whether a call was refused.
 use crate::memory_of_sets::print_answer;
+use crate::order::numbered_pattern;
 use crate::pattern_parts::{Parts, constructed_pattern, new_parts};
 use crate::samples::{BEGIN, END, MAIN, TWICE_INCLUDED, is_reference, mark, name, written_set};
 use crate::steps::{new_operands, stepped};
@@ -141,5 +142,16 @@ fn names_and_stores_need_no_memory(rt: HostRuntime) {
     mark(rt.alloc(), END);
     assert!(rt; are_told && is_kept, "names and stores are told");
     assert!(rt; plain == 0 && interned == 0, "new stores are empty");
+    print_answer(&rt, false);
+}
+
+#[test]
+fn the_order_of_patterns_needs_no_memory(rt: HostRuntime) {
+    let one = numbered_pattern(rt.alloc(), 10).expect(&rt, "no memory");
+    let other = numbered_pattern(rt.alloc(), 11).expect(&rt, "no memory");
+    mark(rt.alloc(), BEGIN);
+    let is_ordered = one.cmp(&other).is_lt() && other.cmp(&one).is_gt() && one.cmp(&one).is_eq();
+    mark(rt.alloc(), END);
+    assert!(rt; is_ordered, "patterns have their order");
     print_answer(&rt, false);
 }

@@ -5,7 +5,7 @@ use crate::samples::{
     BEGIN, END, MAIN, ONE, TWICE_INCLUDED, answer_word, contribution, held, mark, written_set,
 };
 use rn_modset::{AddFault, BundleFault, ModuleSet, SetFault, read_bundle, write_bundle};
-use rn_text::{TextFault, literal, tokens, write_literal};
+use rn_text::{TextFault, literal, read_tokens, tokens, write_literal};
 use std::process::Abort;
 
 /// Prints whether a call was refused.
@@ -21,6 +21,19 @@ fn a_text_is_cut(rt: HostRuntime) {
     mark(rt.alloc(), END);
     match &answer {
         Ok(found) => assert_eq!(rt; found.len(), 11),
+        Err(fault) => assert!(rt; *fault == TextFault::Memory, "memory is refused"),
+    }
+    print_answer(&rt, answer.is_err());
+}
+
+#[test]
+fn a_text_is_cut_into_a_lent_list(rt: HostRuntime) {
+    let mut found = Vec::new(rt.alloc());
+    mark(rt.alloc(), BEGIN);
+    let answer = read_tokens(MAIN.as_bytes(), &mut found);
+    mark(rt.alloc(), END);
+    match &answer {
+        Ok(_) => assert_eq!(rt; found.len(), 11),
         Err(fault) => assert!(rt; *fault == TextFault::Memory, "memory is refused"),
     }
     print_answer(&rt, answer.is_err());
@@ -51,41 +64,84 @@ fn holds_these(rt: &(impl Abort + AllocGlobal), set: &ModuleSet, wanted: &str) {
     assert_eq!(rt; lines.as_str(), wanted);
 }
 
-#[test]
-fn a_contribution_is_added(rt: HostRuntime) {
-    let mut set = written_set(rt.alloc(), FOUR).expect(&rt, "no set");
-    let kept = contribution(rt.alloc(), "d 4\nz").expect(&rt, "no contribution");
-    let given = contribution(rt.alloc(), "d 4\nz").expect(&rt, "no contribution");
+/// Three contributions, as a set is written.
+const THREE: &str = "@a\nx\n@b 2\ny\n@c 3 withdrawn";
+
+/// The three contributions of `THREE`, as a set holds them.
+const THREE_HELD: &str = "a 1\nb 2\nc 3 withdrawn\n";
+
+/// Whether memory is refused to what adds revision 4 of `d` to a set, which then holds these; the contribution comes back.
+fn is_refused_contribution(
+    rt: &(impl Abort + AllocGlobal),
+    lines: &str,
+    before: &str,
+    after: &str,
+) -> bool {
+    let mut set = written_set(rt.alloc(), lines).expect(rt, "no set");
+    let kept = contribution(rt.alloc(), "d 4\nz").expect(rt, "no contribution");
+    let given = contribution(rt.alloc(), "d 4\nz").expect(rt, "no contribution");
     mark(rt.alloc(), BEGIN);
     let answer = set.add(given);
     mark(rt.alloc(), END);
     let wanted = match &answer {
-        Ok(_) => "a 1\nb 2\nc 3 withdrawn\nd 4\ne 1\n",
+        Ok(_) => after,
         Err((back, fault)) => {
             let is_back = *back == kept && *fault == AddFault::Memory;
             assert!(rt; is_back, "the contribution comes back");
-            FOUR_HELD
+            before
         }
     };
-    holds_these(&rt, &set, wanted);
-    print_answer(&rt, answer.is_err());
+    holds_these(rt, &set, wanted);
+    answer.is_err()
 }
 
 #[test]
-fn sets_are_joined(rt: HostRuntime) {
-    let mut set = written_set(rt.alloc(), FOUR).expect(&rt, "no set");
-    let other = written_set(rt.alloc(), "@a 2\nx\n@b 2\nz\n@d\n").expect(&rt, "no set");
+fn a_contribution_is_added(rt: HostRuntime) {
+    let after = "a 1\nb 2\nc 3 withdrawn\nd 4\ne 1\n";
+    print_answer(&rt, is_refused_contribution(&rt, FOUR, FOUR_HELD, after));
+}
+
+#[test]
+fn a_contribution_is_added_to_three(rt: HostRuntime) {
+    let after = "a 1\nb 2\nc 3 withdrawn\nd 4\n";
+    print_answer(&rt, is_refused_contribution(&rt, THREE, THREE_HELD, after));
+}
+
+/// Whether memory is refused to what joins these to a set, which then holds these.
+fn is_refused_join(
+    rt: &(impl Abort + AllocGlobal),
+    lines: &str,
+    joined: &str,
+    before: &str,
+    after: &str,
+) -> bool {
+    let mut set = written_set(rt.alloc(), lines).expect(rt, "no set");
+    let other = written_set(rt.alloc(), joined).expect(rt, "no set");
     mark(rt.alloc(), BEGIN);
     let answer = set.join(&other);
     mark(rt.alloc(), END);
     let is_right = answer == Ok(()) || answer == Err(AddFault::Memory);
     assert!(rt; is_right, "the set is joined or refused");
     let wanted = match answer {
-        Ok(()) => "a 1\na 2\nb 2\nb 2\nc 3 withdrawn\nd 1\ne 1\n",
-        Err(_) => FOUR_HELD,
+        Ok(()) => after,
+        Err(_) => before,
     };
-    holds_these(&rt, &set, wanted);
-    print_answer(&rt, answer.is_err());
+    holds_these(rt, &set, wanted);
+    answer.is_err()
+}
+
+#[test]
+fn sets_are_joined(rt: HostRuntime) {
+    let joined = "@a 2\nx\n@b 2\nz\n@d\n";
+    let after = "a 1\na 2\nb 2\nb 2\nc 3 withdrawn\nd 1\ne 1\n";
+    print_answer(&rt, is_refused_join(&rt, FOUR, joined, FOUR_HELD, after));
+}
+
+#[test]
+fn sets_of_three_are_joined(rt: HostRuntime) {
+    let joined = "@a 2\nx\n@b 2\nz\n@d\n";
+    let after = "a 1\na 2\nb 2\nb 2\nc 3 withdrawn\nd 1\n";
+    print_answer(&rt, is_refused_join(&rt, THREE, joined, THREE_HELD, after));
 }
 
 #[test]

@@ -75,7 +75,7 @@ fn element(alloc: Global, local: &str, content: Pattern) -> Result<Pattern, Allo
 }
 
 /// Patterns in their order, of the numbers 0 to 16.
-fn numbered_pattern(alloc: Global, number: usize) -> Result<Pattern, AllocError> {
+pub fn numbered_pattern(alloc: Global, number: usize) -> Result<Pattern, AllocError> {
     Ok(match number {
         0 => Pattern::NotAllowed,
         1 => Pattern::Empty,

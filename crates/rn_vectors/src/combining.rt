@@ -1,5 +1,5 @@
 // Sets of several contributions that print a schema. Each printed schema, merged alone, is printed again.
-use crate::merges::{BothStores, LentOrGivenUp, Merge, MergeAgain};
+use crate::merges::{EachStore, Merge, MergeAgain};
 use crate::tables::each_schema;
 
 const ROWS: &str = r#"@a
@@ -160,11 +160,6 @@ fn combined_schemas_print_themselves_again(rt: HostRuntime) {
 }
 
 #[test]
-fn both_stores_combine_the_same(rt: HostRuntime) {
-    each_schema(&rt, &BothStores, ROWS);
-}
-
-#[test]
-fn grammars_that_are_lent_or_given_up_combine_the_same(rt: HostRuntime) {
-    each_schema(&rt, &LentOrGivenUp, ROWS);
+fn each_store_combines_the_same(rt: HostRuntime) {
+    each_schema(&rt, &EachStore, ROWS);
 }

@@ -2,7 +2,7 @@
 use crate::comparing::{expect_text, holds, same, same_count};
 use crate::given_texts::{owned, push, repeated, written_set};
 use crate::merges::{
-    FIRST_LINE, answer, answer_of_text, merged, prints_again, prints_in_either_store,
+    FIRST_LINE, answer, answer_of_text, merged, prints_again, prints_in_each_store,
 };
 use rn_modset::ModuleSet;
 use rn_units::samples::module;
@@ -180,10 +180,10 @@ fn schemas_at_the_limits_print_themselves_again(rt: HostRuntime) {
 fn either_store_prints_schemas_at_the_limits(rt: HostRuntime) {
     for (count, before, innermost, _) in &DEEPEST {
         let text = nested(&rt, *count, before, innermost);
-        prints_in_either_store(&rt, &written_set(&rt, text.as_str()));
+        prints_in_each_store(&rt, &written_set(&rt, text.as_str()));
     }
-    prints_in_either_store(&rt, &doubling(&rt, 8));
-    prints_in_either_store(&rt, &tower(&rt, 511));
+    prints_in_each_store(&rt, &doubling(&rt, 8));
+    prints_in_each_store(&rt, &tower(&rt, 511));
 }
 
 /// A schema in its canonical spelling is printed as it is.

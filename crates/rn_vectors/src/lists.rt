@@ -5,7 +5,7 @@ ghost use Rattle.std.specs.Prelude.{◌<◌, ◌≤◌};
 use crate::comparing::{expect_text, same_for};
 use crate::drawing::Draw;
 use crate::given_texts::{owned, push, written_set};
-use crate::merges::{BothStores, LentOrGivenUp, Merge, MergeAgain, merged, prints_in_either_store};
+use crate::merges::{EachStore, Merge, MergeAgain, merged, prints_in_each_store};
 use crate::tables::each_schema;
 use std::process::Abort;
 
@@ -92,8 +92,7 @@ y = a & a & a & b & b & b & a+
 fn lists_print_their_schemas(rt: HostRuntime) {
     each_schema(&rt, &Merge, LISTS);
     each_schema(&rt, &MergeAgain, LISTS);
-    each_schema(&rt, &BothStores, LISTS);
-    each_schema(&rt, &LentOrGivenUp, LISTS);
+    each_schema(&rt, &EachStore, LISTS);
 }
 
 /// Members as a text has them, and as they are written out. The last two are notAllowed.
@@ -159,7 +158,7 @@ fn schema(rt: &(impl Abort + AllocGlobal), content: &str, definitions: &str) -> 
             "start = element r {{ {content} }}\nx = element x {{ text }}{definitions}"
         ),
     );
-    prints_in_either_store(rt, &written_set(rt, text.as_str()));
+    prints_in_each_store(rt, &written_set(rt, text.as_str()));
     merged(rt, text.as_str())
 }
 

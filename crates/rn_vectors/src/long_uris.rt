@@ -2,7 +2,7 @@
 // and what it prints is printed again.
 use crate::comparing::{expect_text, same, same_count, same_for};
 use crate::given_texts::{owned, repeated, written_set};
-use crate::merges::{BothStores, Merge, MergeAgain, answer, merged};
+use crate::merges::{EachStore, Merge, MergeAgain, answer, merged};
 use crate::tables::{Subject, each_schema, each_set};
 use rn_assemble::assemble;
 use rn_merge::refusal_line;
@@ -20,7 +20,7 @@ pub fn prints(rt: &(impl Abort + AllocGlobal), given: &str, wanted: &str) {
     let given = lengthened(rt, given);
     let wanted = lengthened(rt, wanted);
     Merge.answers(rt, given.as_str(), wanted.as_str());
-    BothStores.answers(rt, given.as_str(), wanted.as_str());
+    EachStore.answers(rt, given.as_str(), wanted.as_str());
     MergeAgain.answers(rt, given.as_str(), wanted.as_str());
 }
 

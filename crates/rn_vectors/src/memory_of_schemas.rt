@@ -7,7 +7,7 @@ use crate::memory_of_merges::{is_refused_answer, print_answer};
 use crate::merges::{self, shown};
 use rn_assemble::{Grammar, Refusal};
 use rn_pattern::{Interned, Patterns, Plain};
-use rn_simplify::{Normal, into_normal, normalise, normalise_in, print};
+use rn_simplify::{Normal, normalise, normalise_in, print};
 use rn_units::samples::{BEGIN, END, TWICE_INCLUDED, is_reference, mark};
 use std::alloc::AllocError;
 use std::process::Abort;
@@ -32,22 +32,6 @@ fn is_normalised(rt: &impl Abort, answer: &Result<Normal, AllocError>) {
 fn a_grammar_is_normalised(rt: HostRuntime) {
     let grammar = grammar(&rt);
     print_answer(&rt, is_refused_normal(&rt, &grammar));
-}
-
-/// Whether memory is refused to what normalises a grammar as it is given up, whose canonical form has one definition.
-fn is_refused_given_up(rt: &(impl Abort + AllocGlobal), grammar: Box<Grammar>) -> bool {
-    let grammar = Box::into_inner(grammar);
-    let listed = grammar.into_listed(rt.alloc()).expect(rt, "no memory");
-    mark(rt.alloc(), BEGIN);
-    let answer = into_normal(rt.alloc(), listed);
-    mark(rt.alloc(), END);
-    is_normalised(rt, &answer);
-    answer.is_err()
-}
-
-#[test]
-fn a_grammar_that_is_given_up_is_normalised(rt: HostRuntime) {
-    print_answer(&rt, is_refused_given_up(&rt, grammar(&rt)));
 }
 
 /// Whether a grammar's canonical form is refused in a store of two references, which stay.

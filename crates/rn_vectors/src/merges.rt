@@ -6,7 +6,7 @@ use rn_assemble::{Grammar, Refusal, assemble};
 use rn_merge::{ProgramFault, fault_line, merge, refusal_line};
 use rn_modset::ModuleSet;
 use rn_pattern::{Interned, Patterns, Plain};
-use rn_simplify::{Normal, into_normal, normalise, normalise_in, print};
+use rn_simplify::{Normal, normalise, normalise_in, print};
 use std::process::Abort;
 
 /// The line with which each printed schema begins.
@@ -106,54 +106,31 @@ fn prints_in<P: Patterns>(
     same_for(rt, given, lines_of(rt, text.as_str()), wanted);
 }
 
-/// The schema of a set, whose canonical form is built in either store, has these lines behind the first one.
-fn prints_in_both(rt: &(impl Abort + AllocGlobal), set: &ModuleSet, given: &str, wanted: &str) {
+/// The schema of a set has these lines behind the first one, whether its canonical grammar is built in a store of its
+/// own or in either store.
+fn prints_in_each(rt: &(impl Abort + AllocGlobal), set: &ModuleSet, given: &str, wanted: &str) {
     let grammar = grammar(rt, set);
+    let normal = normalise(rt.alloc(), &grammar).expect(rt, "no memory");
+    let text = print(rt.alloc(), &normal).expect(rt, "no text");
+    same_for(rt, given, lines_of(rt, text.as_str()), wanted);
     prints_in(rt, &grammar, &mut Plain::new(rt.alloc()), given, wanted);
     prints_in(rt, &grammar, &mut Interned::new(rt.alloc()), given, wanted);
 }
 
-/// A merge whose canonical form is built in a store that looks for equal patterns, and in one that doesn't.
-pub struct BothStores;
+/// A merge whose canonical grammar is built in a store of its own, in one that looks for equal patterns, and in one that
+/// doesn't.
+pub struct EachStore;
 
-impl Subject for BothStores {
+impl Subject for EachStore {
     fn answers<R: Abort + AllocGlobal>(&self, rt: &R, given: &str, wanted: &str) {
-        prints_in_both(rt, &written_set(rt, given), given, wanted);
+        prints_in_each(rt, &written_set(rt, given), given, wanted);
     }
 }
 
-/// What a set prints is printed through either store.
-pub fn prints_in_either_store(rt: &(impl Abort + AllocGlobal), set: &ModuleSet) {
+/// What a set prints is printed through each store.
+pub fn prints_in_each_store(rt: &(impl Abort + AllocGlobal), set: &ModuleSet) {
     let text = printed(rt, set);
-    prints_in_both(rt, set, "", lines_of(rt, text.as_str()));
-}
-
-/// The text of the canonical grammar of a grammar that is lent.
-fn text_of_lent(rt: &(impl Abort + AllocGlobal), grammar: &Grammar) -> String {
-    let normal = normalise(rt.alloc(), grammar).expect(rt, "no memory");
-    print(rt.alloc(), &normal).expect(rt, "no text")
-}
-
-/// The text of the canonical grammar of a grammar that is given up.
-fn text_of_given_up(rt: &(impl Abort + AllocGlobal), grammar: Box<Grammar>) -> String {
-    let listed = Box::into_inner(grammar)
-        .into_listed(rt.alloc())
-        .expect(rt, "no memory");
-    let normal = into_normal(rt.alloc(), listed).expect(rt, "no memory");
-    print(rt.alloc(), &normal).expect(rt, "no text")
-}
-
-/// A merge whose canonical form is made of a grammar that is lent, and of the same one as it is given up.
-pub struct LentOrGivenUp;
-
-impl Subject for LentOrGivenUp {
-    fn answers<R: Abort + AllocGlobal>(&self, rt: &R, given: &str, wanted: &str) {
-        let grammar = grammar(rt, &written_set(rt, given));
-        let lent = text_of_lent(rt, &grammar);
-        let given_up = text_of_given_up(rt, grammar);
-        same_for(rt, given, given_up.as_str(), lent.as_str());
-        same_for(rt, given, lines_of(rt, given_up.as_str()), wanted);
-    }
+    prints_in_each(rt, set, "", lines_of(rt, text.as_str()));
 }
 
 /// The line of a fault.

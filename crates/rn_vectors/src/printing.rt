@@ -1,5 +1,5 @@
 // Single modules that print a schema. Each printed schema, merged alone, is printed again.
-use crate::merges::{BothStores, Merge, MergeAgain};
+use crate::merges::{EachStore, Merge, MergeAgain};
 use crate::tables::each_schema;
 
 /// Patterns in their canonical form.
@@ -341,7 +341,7 @@ fn printed_schemas_print_themselves_again(rt: HostRuntime) {
 }
 
 #[test]
-fn both_stores_print_the_same(rt: HostRuntime) {
-    each_schema(&rt, &BothStores, PATTERNS);
-    each_schema(&rt, &BothStores, SPELLINGS);
+fn each_store_prints_the_same(rt: HostRuntime) {
+    each_schema(&rt, &EachStore, PATTERNS);
+    each_schema(&rt, &EachStore, SPELLINGS);
 }

@@ -3,7 +3,7 @@
 use crate::comparing::{expect_text, same_for};
 use crate::drawing::Draw;
 use crate::given_texts::{owned, push, written_set};
-use crate::merges::{answer, prints_in_either_store};
+use crate::merges::{answer, prints_in_each_store};
 use std::process::Abort;
 
 /// What a module may define: `n` is worth notAllowed, and `m` empty.
@@ -83,6 +83,6 @@ fn bodies_that_stand_before_are_as_if_written_anew(rt: HostRuntime) {
         let found = answer(&rt, &written_set(&rt, one.as_str()));
         let wanted = answer(&rt, &written_set(&rt, many.as_str()));
         same_for(&rt, text.as_str(), found.as_str(), wanted.as_str());
-        prints_in_either_store(&rt, &written_set(&rt, one.as_str()));
+        prints_in_each_store(&rt, &written_set(&rt, one.as_str()));
     }
 }

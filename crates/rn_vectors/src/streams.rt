@@ -5,8 +5,7 @@ use crate::comparing::{holds, same_bytes};
 use crate::given_texts::written_set;
 use rn_assemble::Refusal;
 use rn_merge::{
-    Failed, ReadFault, RunFault, Sink, Source, Status, print_last, print_set, read_input,
-    run_print, write_output,
+    Failed, ReadFault, RunFault, Sink, Source, Status, read_input, run_print, write_output,
 };
 use rn_modset::{BundleFault, write_bundle};
 use std::alloc::Global;
@@ -186,36 +185,6 @@ fn nothing_is_written_without_a_schema(rt: HostRuntime) {
     let fault = BundleFault::Truncated;
     let wanted = Err(RunFault::Bundle { index, fault });
     runs(&rt, given.as_slice(), 1000, b"", wanted);
-}
-
-/// A set is printed into sinks that have room for so many bytes: they are given these, and both have this answer,
-/// whether the memory of its patterns is given back or left to the system.
-fn prints_set(
-    rt: &(impl Abort + AllocGlobal),
-    given: &str,
-    room: usize,
-    taken: &[u8],
-    wanted: Result<Status, RunFault>,
-) {
-    let set = written_set(rt, given);
-    let mut out = sink_of(rt.alloc(), room);
-    let answer = print_set(rt.alloc(), &set, &mut out);
-    same_bytes(rt, out.taken.as_slice(), taken);
-    let mut last = sink_of(rt.alloc(), room);
-    let last_answer = print_last(rt.alloc(), &set, &mut last);
-    same_bytes(rt, last.taken.as_slice(), taken);
-    let is_wanted = answer == wanted && last_answer == wanted;
-    holds(rt, is_wanted, "the set is printed with this answer");
-}
-
-#[test]
-fn sets_are_printed_alike_first_and_last(rt: HostRuntime) {
-    let given = "@a\nstart = doc doc |= element b { text }\n@b\ndoc |= element a { empty }";
-    let printed = PRINTED.as_bytes();
-    prints_set(&rt, given, 1000, printed, Ok(Status::Done));
-    prints_set(&rt, given, 20, &printed[..20], Err(RunFault::Write));
-    let refused = Ok(Status::Refused(Refusal::NoStart));
-    prints_set(&rt, "@a\nx = text", 1000, b"", refused);
 }
 
 #[test]

@@ -3,10 +3,10 @@ use crate::comparing::{expect_text, holds};
 use crate::drawing::Draw;
 use crate::given_texts::{owned, push, written_set};
 use crate::long_uris::{lengthened, prints};
-use crate::merges::{prints_again, prints_in_either_store};
+use crate::merges::{prints_again, prints_in_each_store};
 use rn_assemble::assemble_short;
 use rn_modset::ModuleSet;
-use rn_simplify::{into_normal, print};
+use rn_simplify::{normalise, print};
 use std::process::Abort;
 
 /// A line for each URI, which declares it for a prefix with this letter and its number.
@@ -179,7 +179,7 @@ fn many_uris_keep_their_order(rt: HostRuntime) {
 /// The text of a set's grammar with short texts in the place of its long URIs.
 fn short_text(rt: &(impl Abort + AllocGlobal), set: &ModuleSet) -> String {
     let short = assemble_short(rt.alloc(), set).expect(rt, "no grammar");
-    let normal = into_normal(rt.alloc(), short.grammar).expect(rt, "no memory");
+    let normal = normalise(rt.alloc(), &short.grammar).expect(rt, "no memory");
     print(rt.alloc(), &normal).expect(rt, "no text")
 }
 
@@ -304,7 +304,7 @@ fn drawn_sets_are_printed(rt: HostRuntime) {
     for number in 0..300 {
         let text = draw_set(&rt, &mut draw, 1 + number % 3);
         let set = written_set(&rt, text.as_str());
-        prints_in_either_store(&rt, &set);
+        prints_in_each_store(&rt, &set);
         prints_again(&rt, &set);
     }
 }

@@ -5,7 +5,7 @@ mod system;
 
 use crate::system::{System, Written};
 use rn_flat::{Colours, FlatFault, Words, WordsFault, fault_lines, perform, read_words, status};
-use rn_merge::{Output, keep_large_lists, write_output};
+use rn_merge::{Output, write_output};
 use std::env;
 use std::io::{ErrorKind, IsTerminal};
 use std::process::ExitCode;
@@ -19,7 +19,6 @@ fn main(rt: HostRuntime) -> ExitCode {
 
 /// Does what the words ask for.
 fn run(rt: &HostRuntime) -> Result<(), FlatFault> {
-    keep_large_lists(rt.alloc());
     let words = words(rt)?;
     match read_words(rt.alloc(), words.as_slice()) {
         Ok(Words::Shown(text)) => show(rt, text.as_str()),

@@ -1,43 +1,73 @@
-// Reading the files that the words name.
-ghost use Rattle.std.specs.Prelude.{◌≡◌, false};
+// What the files of a job are read from, and reading them in order.
+ghost use Rattle.std.specs.Prelude.{◌≡◌, ℕ, List, IfOk, IfErr, map, string_bytes};
+ghost use Rattle.std.specs.List.{AllZip};
+ghost use Rattle.rn_merge.specs.Runs.{bundles_view};
+ghost use Rattle.rn_merge.specs.declared.streams.ReadFault.{ReadFault};
+ghost use Rattle.rnc_merge.specs.Inputs.{IsInputFault, input_fault};
 
-use rn_merge::{Input, MAX_INPUT, ProgramFault, ReadFault, STANDARD_INPUT, Source, read_input};
+use rn_merge::{ProgramFault, ReadFault};
 use std::alloc::Global;
-use std::fs::File;
 
-/// The bytes of all files, in order; or the fault of the first that can't be read, as [`read_file`]
-/// says it, or `Memory`.
-pub fn read_files(rt: &HostRuntime, files: &[String]) -> Result<Vec<Vec<u8>>, ProgramFault> {
-    let mut inputs = Vec::with_capacity(rt.alloc(), files.len())?;
-    for (n, file) in files.iter().enumerate() {
-        if inputs.push(read_file(rt, n, file.as_str())?).is_err() {
-            return Err(ProgramFault::Memory);
-        }
-    }
-    Ok(inputs)
+/// What files are read from, by path.
+pub trait Inputs {
+    // What may be read at the path; a type that says nothing allows all.
+    ghost gives: { Self → List ℕ → List ℕ → Type 0 } = { λ _ _ _. Unit {0} };
+
+    // Why nothing may be read at the path.
+    ghost refuses: { Self → List ℕ → ReadFault → Type 0 } = { λ _ _ _. Unit {0} };
+
+    /// All bytes of the file at the path. `Read` where it can't be opened or read, `Large` where it
+    /// has more than [`rn_merge::MAX_INPUT`] bytes, `Memory` where a request for memory was refused.
+    fn read(&self, alloc: Global, path: &str) -> Result<Vec<u8>, ReadFault>
+        ensures given { IfOk result (λ bytes. gives self.now path.now bytes.items) }
+        ensures refused { IfErr result (refuses self.now path.now) };
 }
 
-/// The bytes of the file with this number among the words. `Read` where it can't be opened or read,
-/// `Large` where it has more than [`MAX_INPUT`] bytes, each with the number; else `Memory`.
-pub fn read_file(rt: &HostRuntime, n: usize, file: &str) -> Result<Vec<u8>, ProgramFault> {
-    if file == STANDARD_INPUT {
-        return read_all(rt.alloc(), n, &mut Input::new(rt.stdin()));
-    }
-    match File::open(rt, file) {
-        Ok(opened) => read_all(rt.alloc(), n, &mut Input::new(opened)),
-        Err(_) => Err(ProgramFault::Read(n)),
-    }
-}
-
-/// All bytes of the source that the file with this number among the words is.
-fn read_all<S: Source>(alloc: Global, n: usize, source: &mut S) -> Result<Vec<u8>, ProgramFault>
-    requires fresh { S.has_failed source.old ≡ false }
-    requires unended { S.has_ended source.old ≡ false }
+/// The bytes of all files, in order; or the fault of the first that can't be read, with its index,
+/// or `Memory`.
+pub fn read_files<I: Inputs>(
+    alloc: Global,
+    inputs: &I,
+    files: &[String],
+) -> Result<Vec<Vec<u8>>, ProgramFault>
+    ensures given { IfOk result (λ read. AllZip (I.gives inputs.now) (map string_bytes files.now)
+        (bundles_view read.items)) }
+    ensures refused { IfErr result (IsInputFault (I.gives inputs.now) (I.refuses inputs.now)
+        (map string_bytes files.now)) }
 {
-    match read_input(alloc, source, MAX_INPUT) {
+    let mut read = Vec::with_capacity(alloc, files.len())?;
+    for (index, file) in files.iter().enumerate() {
+        let bytes = read_file(alloc, inputs, index, file.as_str())?;
+        read.push(bytes)?;
+    }
+    Ok(read)
+}
+
+/// The bytes of the file that has this index in its job, or the fault of the program where it can't
+/// be read.
+pub fn read_file<I: Inputs>(
+    alloc: Global,
+    inputs: &I,
+    index: usize,
+    file: &str,
+) -> Result<Vec<u8>, ProgramFault>
+    ensures given { IfOk result (λ bytes. I.gives inputs.now file.now bytes.items) }
+    ensures refused { IfErr result (λ fault. (why : ReadFault) × I.refuses inputs.now file.now why
+        × (fault ≡ input_fault index why)) }
+{
+    match inputs.read(alloc, file) {
         Ok(bytes) => Ok(bytes),
-        Err(ReadFault::Read) => Err(ProgramFault::Read(n)),
-        Err(ReadFault::Large) => Err(ProgramFault::Large(n)),
-        Err(ReadFault::Memory) => Err(ProgramFault::Memory),
+        Err(why) => Err(input_fault(index, why)),
+    }
+}
+
+/// The fault of the program where the file with this index isn't read.
+fn input_fault(index: usize, why: ReadFault) -> ProgramFault
+    ensures { result ≡ input_fault index why }
+{
+    match why {
+        ReadFault::Read => ProgramFault::Read(index),
+        ReadFault::Large => ProgramFault::Large(index),
+        ReadFault::Memory => ProgramFault::Memory,
     }
 }

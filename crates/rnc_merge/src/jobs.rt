@@ -1,20 +1,30 @@
 // What each command does.
-ghost use Rattle.std.specs.Prelude.{◌≡◌, false};
-ghost use Rattle.rnc_merge.specs.Jobs.{LeavesSink};
+ghost use Rattle.std.specs.Prelude.{◌≡◌, IfOk, false, string_bytes};
+ghost use Rattle.rn_merge.specs.Runs.{bundles_view};
+ghost use Rattle.rnc_merge.specs.Jobs.{IsBundleOf, IsChecked, IsPackFault, IsPerformed, IsPrinted, IsUnionBundle, IsUnionFault, IsUnionList, IsWritten, KeepsOutput, Writes, list_lines};
+ghost use Rattle.rnc_merge.specs.inside.Steps.{KeepsAtFault, one_member};
 
-use crate::inputs::{read_file, read_files};
+use crate::inputs::{Inputs, read_file, read_files};
 use rn_merge::{
-    Job, ProgramFault, Sink, Status, check_last, keep_large_lists, list_line, print_last,
-    read_bundles, write_output,
+    Job, ProgramFault, Sink, Status, check, list_line, read_bundles, run_print, write_output,
 };
 use rn_modset::{Contribution, ModuleSet, write_bundle};
-use std::alloc::Global;
+use std::alloc::{AllocError, Global};
 
-/// Reads all files of a job, does it, and writes what it gives. At every fault but `Write` nothing
-/// is written; at `Write` the sink took a front of what the job gives.
-pub fn perform<W: Sink>(rt: &HostRuntime, job: Job, out: &mut W) -> Result<(), ProgramFault>
+/// Reads all files of a job, does it, and writes what it gives: the bundle of one contribution, the
+/// bundle or the list of a union, or its schema as [`run_print`] says it; a check writes nothing. At
+/// every fault but `Write` nothing is written. `Write` is answered only where the output has failed,
+/// which then took a front of what the job gives.
+pub fn perform<I: Inputs, W: Sink>(
+    alloc: Global,
+    inputs: &I,
+    job: Job,
+    out: &mut W,
+) -> Result<(), ProgramFault>
     requires { W.has_failed out.old ≡ false }
-    ensures { LeavesSink result (out.new ≡ out.old) }
+    ensures performed { IsPerformed job (I.gives inputs.now) (I.refuses inputs.now)
+        (W.contents out.old) (W.contents out.new) (W.has_failed out.new) result }
+    ensures kept { KeepsOutput job result (out.new ≡ out.old) }
 {
     match job {
         Job::Pack {
@@ -22,33 +32,25 @@ pub fn perform<W: Sink>(rt: &HostRuntime, job: Job, out: &mut W) -> Result<(), P
             revision,
             file,
         } => {
-            let text = read_file(rt, 0, file.as_str())?;
-            write_contribution(rt.alloc(), name, revision, Some(text), out)
+            let text = read_file(alloc, inputs, 0, file.as_str())?;
+            write_contribution(alloc, name, revision, Some(text), out)
         }
-        Job::Withdraw { name, revision } => write_contribution(
-            rt.alloc(),
-            name,
-            revision,
-            None,
-            out,
-        ),
-        Job::Join { files } => write_union(
-            rt.alloc(),
-            read_files(rt, files.as_slice())?.as_slice(),
-            out,
-        ),
-        Job::List { files } => write_list(
-            rt.alloc(),
-            read_files(rt, files.as_slice())?.as_slice(),
-            out,
-        ),
+        Job::Withdraw { name, revision } => write_contribution(alloc, name, revision, None, out),
+        Job::Join { files } => {
+            let bundles = read_files(alloc, inputs, files.as_slice())?;
+            write_union(alloc, bundles.as_slice(), out)
+        }
+        Job::List { files } => {
+            let bundles = read_files(alloc, inputs, files.as_slice())?;
+            write_list(alloc, bundles.as_slice(), out)
+        }
         Job::Print { files } => {
-            keep_large_lists(rt.alloc());
-            write_schema(rt.alloc(), read_files(rt, files.as_slice())?, out)
+            let bundles = read_files(alloc, inputs, files.as_slice())?;
+            write_schema(alloc, bundles.as_slice(), out)
         }
         Job::Check { file } => {
-            let text = read_file(rt, 0, file.as_str())?;
-            check_last(rt.alloc(), text.as_slice()).map_err(ProgramFault::Check)
+            let text = read_file(alloc, inputs, 0, file.as_str())?;
+            check_text(alloc, text.as_slice())
         }
     }
 }
@@ -62,7 +64,9 @@ fn write_contribution<W: Sink>(
     out: &mut W,
 ) -> Result<(), ProgramFault>
     requires { W.has_failed out.old ≡ false }
-    ensures { LeavesSink result (out.new ≡ out.old) }
+    ensures written { let m = one_member name revision text in Writes (IsBundleOf m) (IsPackFault m)
+        (W.contents out.old) (W.contents out.new) (W.has_failed out.new) result }
+    ensures kept { KeepsAtFault result (out.new ≡ out.old) }
 {
     let mut set = ModuleSet::new(alloc);
     let contribution = Contribution {
@@ -79,7 +83,10 @@ fn write_contribution<W: Sink>(
 /// Writes the bundle of the union of bundles.
 fn write_union<W: Sink>(alloc: Global, bundles: &[Vec<u8>], out: &mut W) -> Result<(), ProgramFault>
     requires { W.has_failed out.old ≡ false }
-    ensures { LeavesSink result (out.new ≡ out.old) }
+    ensures written { Writes (IsUnionBundle (bundles_view bundles.now))
+        (IsUnionFault (bundles_view bundles.now))
+        (W.contents out.old) (W.contents out.new) (W.has_failed out.new) result }
+    ensures kept { KeepsAtFault result (out.new ≡ out.old) }
 {
     let union = read_bundles(alloc, bundles)?;
     write(write_bundle(alloc, &union)?.as_slice(), out)
@@ -88,38 +95,60 @@ fn write_union<W: Sink>(alloc: Global, bundles: &[Vec<u8>], out: &mut W) -> Resu
 /// Writes a line for each contribution of the union of bundles.
 fn write_list<W: Sink>(alloc: Global, bundles: &[Vec<u8>], out: &mut W) -> Result<(), ProgramFault>
     requires { W.has_failed out.old ≡ false }
-    ensures { LeavesSink result (out.new ≡ out.old) }
+    ensures written { Writes (IsUnionList (bundles_view bundles.now))
+        (IsUnionFault (bundles_view bundles.now))
+        (W.contents out.old) (W.contents out.new) (W.has_failed out.new) result }
+    ensures kept { KeepsAtFault result (out.new ≡ out.old) }
 {
     let union = read_bundles(alloc, bundles)?;
-    let mut lines = String::new(alloc);
-    for contribution in union.iter() {
-        lines.push_str(list_line(alloc, contribution)?.as_str())?;
-        lines.push_str("\n")?;
-    }
+    let lines = list_lines(alloc, &union)?;
     write(lines.as_bytes(), out)
 }
 
-/// Writes the schema of the union of bundles, whose memory is free again before it is made.
+/// A line for each contribution of a set, in order.
+fn list_lines(alloc: Global, set: &ModuleSet) -> Result<String, AllocError>
+    ensures { IfOk result (λ lines. string_bytes lines ≡ list_lines set.now) }
+{
+    let mut lines = String::new(alloc);
+    for contribution in set.iter() {
+        lines.push_str(list_line(alloc, contribution)?.as_str())?;
+        lines.push_str("\n")?;
+    }
+    Ok(lines)
+}
+
+/// Writes the schema of the union of bundles.
 fn write_schema<W: Sink>(
     alloc: Global,
-    bundles: Vec<Vec<u8>>,
+    bundles: &[Vec<u8>],
     out: &mut W,
 ) -> Result<(), ProgramFault>
     requires { W.has_failed out.old ≡ false }
-    ensures { LeavesSink result (out.new ≡ out.old) }
+    ensures printed { IsPrinted (bundles_view bundles.now)
+        (W.contents out.old) (W.contents out.new) (W.has_failed out.new) result }
+    ensures kept { KeepsAtFault result (out.new ≡ out.old) }
 {
-    let union = read_bundles(alloc, bundles.as_slice())?;
-    drop(bundles);
-    match print_last(alloc, &union, out)? {
+    match run_print(alloc, bundles, out)? {
         Status::Done => Ok(()),
         Status::Refused(refusal) => Err(ProgramFault::Refused(refusal)),
+    }
+}
+
+/// Tests one module text, and writes nothing.
+fn check_text(alloc: Global, text: &[u8]) -> Result<(), ProgramFault>
+    ensures { IsChecked text.now result }
+{
+    match check(alloc, text) {
+        Ok(()) => Ok(()),
+        Err(place) => Err(ProgramFault::Check(place)),
     }
 }
 
 /// Writes bytes to the sink.
 fn write<W: Sink>(bytes: &[u8], out: &mut W) -> Result<(), ProgramFault>
     requires { W.has_failed out.old ≡ false }
-    ensures { LeavesSink result (out.new ≡ out.old) }
+    ensures { IsWritten bytes.now (W.contents out.old) (W.contents out.new)
+        (W.has_failed out.new) result }
 {
     match write_output(out, bytes) {
         Ok(()) => Ok(()),

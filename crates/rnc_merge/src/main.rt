@@ -4,8 +4,10 @@
 
 mod inputs;
 mod jobs;
+mod system;
 
 use crate::jobs::perform;
+use crate::system::System;
 use rn_merge::{Output, ProgramFault, fault_line, plan, status, write_output};
 use std::alloc::{AllocError, Global};
 use std::env;
@@ -23,7 +25,12 @@ fn main(rt: HostRuntime) -> ExitCode {
 fn run(rt: &HostRuntime) -> Result<(), ProgramFault> {
     let words = words(rt)?;
     let job = plan(rt.alloc(), words.as_slice())?;
-    perform(rt, job, &mut Output::new(rt.stdout()))
+    perform(
+        rt.alloc(),
+        &System { rt },
+        job,
+        &mut Output::new(rt.stdout()),
+    )
 }
 
 /// The words behind the program's name.

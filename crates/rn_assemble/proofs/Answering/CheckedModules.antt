@@ -9,28 +9,28 @@ use Rattle.std.proofs.lemmas.Result.{MatchResult-weaker}
 use Rattle.rn_text.specs.Texts.{Text, text_cmp}
 use Rattle.rn_assemble.specs.declared.components.Components.{Components}
 use Rattle.rn_assemble.specs.declared.components.Lack.{Lack}
-use Rattle.rn_assemble.specs.declared.combined_grammar.Combined.{Combined}
+use Rattle.rn_assemble.specs.declared.grammar.Grammar.{Grammar}
 use Rattle.rn_assemble.specs.declared.named_modules.NamedModule as code_module
 use Rattle.rn_assemble.specs.declared.refusal.Refusal as code
-use Rattle.rn_assemble.specs.inside.Checked.{AreExpanded, IsGrammarOf, IsFirstOfModules}
+use Rattle.rn_assemble.specs.inside.Checked.{AreExpanded, IsGrammarOf, IsFirstOfModules, KeepsWellFormed}
 use Rattle.rn_assemble.specs.Components.{Component, Key, NamedModule, components, has_key, roots, set_components, start_key}
 use Rattle.rn_assemble.specs.inside.Contained.{AreFlat}
 use Rattle.rn_assemble.specs.inside.Expanded.{IsListed, name_at}
-use Rattle.rn_assemble.specs.inside.CombinedView.{combined_view}
+use Rattle.rn_assemble.specs.GrammarView.{grammar_view}
 use Rattle.rn_assemble.specs.inside.Included.{AreIncluded}
-use Rattle.rn_assemble.specs.inside.Joining.{CanBeSettled, IsCombinedGrammar, IsMisnamed}
+use Rattle.rn_assemble.specs.inside.Joining.{AreSoundIfNamed, CanBeJoined, IsJoinedGrammar, IsMisnamed}
 use Rattle.rn_assemble.specs.inside.Keyed.{AreNames, key_at}
 use Rattle.rn_assemble.specs.inside.Lacking.{IsLeastLack, LacksFrom}
 use Rattle.rn_assemble.specs.Least.{key_cmp}
 use Rattle.rn_assemble.specs.inside.Listed.{Live, Lists, components_in}
 use Rattle.rn_assemble.specs.inside.Methods.{CanCombine}
-use Rattle.rn_assemble.specs.Refusal.{Lacks, StandsFor, override}
+use Rattle.rn_assemble.specs.Refusal.{BreaksNameRules, Lacks, StandsFor, override}
 use Rattle.rn_assemble.specs.Combine.{joined_grammar}
 use Rattle.rn_assemble.specs.SettlingOrder.{IsSettlingOrder}
 use Rattle.rn_assemble.specs.inside.ReferenceOrder.{AreDefinedKeys}
 use Rattle.rn_assemble.specs.inside.Sound.{HasSoundReferences}
 use Rattle.rn_assemble.specs.inside.Views.{AreNamed}
-use Rattle.rn_assemble.proofs.Answering.FirstRefusal.{NoneBelow, none_included, none_lacking, none_combined, none_sound, misnamed_first, combined_grammar_of}
+use Rattle.rn_assemble.proofs.Answering.FirstRefusal.{NoneBelow, none_included, none_lacking, none_combined, none_named, none_sound, misnamed_first, joined_grammar_of}
 use Rattle.rn_assemble.proofs.Expansion.Lacking.{lacks_alike}
 use Rattle.rn_assemble.proofs.Renaming.AlikeFacts.{least_alike, some_alike}
 use Rattle.rn_assemble.specs.inside.Trees.{TreeView}
@@ -89,19 +89,20 @@ module _ (modules : List NamedModule) {trees : TreeView} (names : List Text) (x 
       pub passed_methods : NoneBelow modules 9
       passed_methods = none_combined modules passed_overrides can
 
-      -- one component is of the start, these are the keys of names that they define, and what they are joined to can be settled in an order for it
-      pub can_be_settled : (defined order : List ℕ)
-          → ((live : List Live) → Lists names trees x live → IsStrictlySortedBy text_cmp names → AreDefinedKeys names (components_in live) defined × IsSettlingOrder (joined_grammar (components_in live)) order) → CanBeSettled names trees x defined order
-      can_be_settled defined order f =
-          let found = f h.listed.0 h.listed.1 h.in_order in
-          (h.listed.0, h.listed.1, h.in_order, ap (has_key start_key) h.listed.2 ∙ can.start, found.0, found.1)
-
       module _ (sound : HasSoundReferences (set_components modules)) where
         passed_references : NoneBelow modules 11
         passed_references = none_sound modules passed_methods sound
 
-        pub combined_or_first : (r : Result Combined code.Refusal)
-            → ((live : List Live) → Lists names trees x live → IsStrictlySortedBy text_cmp names → has_key start_key (components_in live) ≡ true → MatchResult r (IsCombinedGrammar (components_in live)) (IsMisnamed (components_in live)))
-            → MatchResult r (λ g. IsGrammarOf modules (combined_view g)) (IsFirstOfModules modules)
-        combined_or_first r f =
-            MatchResult-weaker r (at_set (λ cs. has_key start_key cs ≡ true → MatchResult r (IsCombinedGrammar cs) (IsMisnamed cs)) f can.start) (combined_grammar_of modules passed_references) (misnamed_first modules passed_references)
+        -- one component is of the start, these are the keys of names that they define, and what they are joined to can be settled in an order for it
+        pub can_be_joined : KeepsWellFormed modules → (defined order : List ℕ)
+            → ((live : List Live) → Lists names trees x live → IsStrictlySortedBy text_cmp names → AreDefinedKeys names (components_in live) defined × IsSettlingOrder (joined_grammar (components_in live)) order) → CanBeJoined names trees x defined order
+        can_be_joined kept defined order f =
+            let found = f h.listed.0 h.listed.1 h.in_order in
+            let named = λ (keeps : (k : Key) → ¬ BreaksNameRules (set_components modules) k). kept (none_named modules passed_references keeps) in
+            (h.listed.0, h.listed.1, h.in_order, ap (has_key start_key) h.listed.2 ∙ can.start, found.0, found.1, subst AreSoundIfNamed (sym h.listed.2) named)
+
+        pub joined_or_first : (r : Result Grammar code.Refusal)
+            → ((live : List Live) → Lists names trees x live → IsStrictlySortedBy text_cmp names → has_key start_key (components_in live) ≡ true → MatchResult r (IsJoinedGrammar (components_in live)) (IsMisnamed (components_in live)))
+            → MatchResult r (λ g. IsGrammarOf modules (grammar_view g)) (IsFirstOfModules modules)
+        joined_or_first r f =
+            MatchResult-weaker r (at_set (λ cs. has_key start_key cs ≡ true → MatchResult r (IsJoinedGrammar cs) (IsMisnamed cs)) f can.start) (joined_grammar_of modules passed_references) (misnamed_first modules passed_references)

@@ -4,17 +4,17 @@ use Rattle.std.specs.Prelude.{true}
 use Rattle.std.proofs.lemmas.Bool.{false≢true}
 use Rattle.rn_text.specs.Texts.{Text}
 use Rattle.rn_pattern.specs.References.{IsUndefined, IsRecursive}
-use Rattle.rn_assemble.specs.declared.combined_grammar.Combined.{Combined}
+use Rattle.rn_assemble.specs.declared.grammar.Grammar.{Grammar}
 use Rattle.rn_assemble.specs.declared.refusal.Refusal as code
 use Rattle.rn_assemble.specs.declared.refusal.Refusal.TheVariants as r
 use Rattle.rn_assemble.specs.inside.Checked.{IsGrammarOf, IsLacking, IsFirstOfModules}
 use Rattle.rn_assemble.specs.Combine.{IsMixed, IsPlainTwice}
+use Rattle.rn_assemble.specs.GrammarView.{grammar_view}
 use Rattle.rn_assemble.specs.Components.{Key, NamedModule, has_key, set_components, start_key}
-use Rattle.rn_assemble.specs.inside.CombinedView.{combined_view}
 use Rattle.rn_assemble.specs.inside.Included.{AreIncluded}
-use Rattle.rn_assemble.specs.inside.Joining.{IsCombinedGrammar, IsMisnamed}
+use Rattle.rn_assemble.specs.inside.Joining.{IsJoinedGrammar, IsMisnamed}
 use Rattle.rn_assemble.specs.inside.Methods.{CanCombine, IsUncombined}
-use Rattle.rn_assemble.specs.Refusal.{Refusal, conflict, faulty, missing, cycle, too_many_instances, override, plain_twice, mixed_methods, no_start, undefined, recursive, name_class, rank, Lacks, StandsFor, grammar_of}
+use Rattle.rn_assemble.specs.Refusal.{Refusal, conflict, faulty, missing, cycle, too_many_instances, override, plain_twice, mixed_methods, no_start, undefined, recursive, name_class, rank, BreaksNameRules, Lacks, StandsFor, grammar_of}
 use Rattle.rn_assemble.specs.inside.Sound.{HasSoundReferences, IsUnsound}
 
 module _ (modules : List NamedModule) where
@@ -87,9 +87,9 @@ module _ (modules : List NamedModule) where
   misnamed_first n r.Memory h = refl
   misnamed_first n q h = absurd h
 
-  unrefused : NoneBelow 11 → (g : Combined) → IsCombinedGrammar (set_components modules) g → (q : Refusal) → StandsFor modules q → ⊥
-  unrefused n g j (name_class k) h = j.keeps k h.holds
-  unrefused n g j q h = n q (omega arith) h
+  pub none_named : NoneBelow 11 → ((k : Key) → ¬ BreaksNameRules (set_components modules) k) → (q : Refusal) → StandsFor modules q → ⊥
+  none_named n keeps (name_class k) h = keeps k h.holds
+  none_named n keeps q h = n q (omega arith) h
 
-  pub combined_grammar_of : NoneBelow 11 → (g : Combined) → IsCombinedGrammar (set_components modules) g → IsGrammarOf modules (combined_view g)
-  combined_grammar_of n g j = (unrefused n g j, j.is)
+  pub joined_grammar_of : NoneBelow 11 → (g : Grammar) → IsJoinedGrammar (set_components modules) g → IsGrammarOf modules (grammar_view g)
+  joined_grammar_of n g j = (none_named n j.keeps, j.is)

@@ -7,12 +7,13 @@ use Rattle.rn_modset.specs.Modules.{Module}
 use Rattle.rn_syntax.proofs.OneReading.OneTree.{one_tree}
 use Rattle.rn_assemble.specs.declared.refusal.Refusal as code
 use Rattle.rn_assemble.specs.declared.refusal.Refusal.TheVariants as r
-use Rattle.rn_assemble.specs.inside.Checked.{IsGrammarOf, IsFirstOfModules}
+use Rattle.rn_assemble.specs.inside.Checked.{IsGrammarOf, IsFirstOfModules, KeepsWellFormed}
 use Rattle.rn_assemble.specs.Components.{NamedModule}
 use Rattle.rn_assemble.specs.Refusal.{Refusal, conflict, faulty, AreModules, IsAssembled, IsFaulty, IsFirst, IsFirstFor, Stands, StandsFor}
 use Rattle.rn_assemble.specs.Refused.{refusal_view, IsFirstRefusal}
-use Rattle.rn_assemble.proofs.Refusals.NoRefusal.{stands}
+use Rattle.rn_assemble.proofs.Refusals.NoRefusal.{no_excepts, stands, well_formed}
 use Rattle.rn_assemble.proofs.Refusals.OneSet.{one_effective, one_modules}
+use Rattle.rn_assemble.proofs.WellFormed.GoodComponents.{modules_faultless, set_grammar_writable}
 
 module _ (s : List Member) (modules : List NamedModule) (a : AreModules s modules) where
   stands_back : (q : Refusal) → Stands s q → StandsFor modules q
@@ -30,3 +31,7 @@ module _ (s : List Member) (modules : List NamedModule) (a : AreModules s module
 
   pub assembled_of_modules : (g : Grammar) → IsGrammarOf modules g → IsAssembled s g
   assembled_of_modules g h = (λ q k. h.0 q (stands_back q k), (modules, a, h.1))
+
+  -- where no refusal stands, the grammar is well formed and can be written
+  pub set_kept : KeepsWellFormed modules
+  set_kept none = (well_formed modules none (no_excepts modules (modules_faultless s modules a)), set_grammar_writable s modules a)

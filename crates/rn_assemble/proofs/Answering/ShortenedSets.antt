@@ -15,13 +15,16 @@ use Rattle.rn_assemble.specs.Refused.{refusal_view}
 use Rattle.rn_assemble.specs.Renamed.{IsOfKnownUris, IsRenaming}
 use Rattle.rn_assemble.specs.inside.RenamedModules.{renamed_modules, DeclareKnown}
 use Rattle.rn_assemble.specs.ShortTexts.{ShortTexts, IsKnown, IsShortened, IsTable, long_grammar, long_uri, short_texts_of}
+use Rattle.rn_assemble.specs.WellFormed.{HasWritableTexts, IsWellFormed}
 use Rattle.rn_assemble.specs.inside.Contained.{AreFlat}
 use Rattle.rn_assemble.specs.inside.Views.{AreInOrder, module_names, modules_view}
-use Rattle.rn_assemble.specs.inside.Checked.{IsFirstOfModules, IsGrammarOf}
+use Rattle.rn_assemble.specs.inside.Checked.{IsFirstOfModules, IsGrammarOf, KeepsWellFormed}
 use Rattle.rn_assemble.proofs.Answering.SetRefusal.{assembled_of_modules}
 use Rattle.rn_assemble.proofs.Expansion.WantedNumbers.{names_seen}
 use Rattle.rn_assemble.proofs.Renaming.SameRefusals.{grammar_renamed, known_grammar, same_first, same_refusals}
-use Rattle.rn_assemble.proofs.Renaming.ShortTables.{table_renames}
+use Rattle.rn_assemble.proofs.Renaming.ShortTables.{table_renames, table_writable}
+use Rattle.rn_assemble.proofs.Renaming.WellFormedGrammars.{well_formed_before}
+use Rattle.rn_assemble.proofs.Renaming.WritableGrammars.{writable_before}
 
 -- ---- what shortened modules keep
 
@@ -57,6 +60,14 @@ module _ (es : ShortTexts) (t : IsTable es) (ms short : List NamedModule) (same 
       of_view : (o : Option Refusal) → MatchOption o (q ≡ r.Memory) (IsFirstFor short) → MatchOption o (q ≡ r.Memory) (IsFirstFor ms)
       of_view None m = m
       of_view (Some p) m = first_for p m
+
+  pub kept_before : KeepsWellFormed ms → KeepsWellFormed short
+  kept_before kept none =
+      let (whole, written) = kept (λ q h. none q ((alike q).0 h)) in
+      let g = grammar_of short in
+      let is : long_grammar es g ≡ grammar_of ms = sym (grammar_renamed renames short) ∙ ap grammar_of same in
+      let k = known_grammar renames short known in
+      (well_formed_before renames g k (subst IsWellFormed (sym is) whole), writable_before renames (table_writable es t) g k (subst HasWritableTexts (sym is) written))
 
   pub shortened_of : es ≡ short_texts_of ms → (s : List Member) → AreModules s ms → (g : Grammar) → IsGrammarOf short g → IsShortened s es g
   shortened_of e s a g h = record {

@@ -1,41 +1,42 @@
 -- The definitions of a grammar, made key by key.
-use Rattle.std.proofs.Common.{◌≡◌, inl, inr, ℕ, zero, suc, ◌+◌, ◌-◌, ◌<◌, ◌≤◌, true, cond, List, [], length, get_or, map, min, set, Option, Some, None, refl, sym, ap, ◌∙◌, subst, arith}
-use Rattle.std.specs.Prelude.{IfSome, IsSomeAnd, String, Vec, ⊤}
+use Rattle.std.proofs.Common.{◌≡◌, inl, inr, ℕ, zero, suc, ◌+◌, ◌-◌, ◌<◌, ◌≤◌, false, true, cond, List, [], ◌∷◌, ◌++◌, append_assoc, drop, length, length-append, get_or, map, min, take, Option, Some, None, refl, sym, ap, ◌∙◌, subst, arith}
+use Rattle.std.specs.Prelude.{IfSome, IsSomeAnd, String, Vec, bytes_eq, ⊤}
+use Rattle.std.specs.List.{list_any}
 use Rattle.std.specs.List.Sorted.{IsStrictlySortedBy}
 use Rattle.std.specs.declared.alloc.Global.{Global}
 use Rattle.std.proofs.lemmas.Bool.{cases_lt}
-use Rattle.std.proofs.lemmas.List.{ext_get_or, get_or-map, get_or-set_other, get_or-set_same, get_or_default, length-map}
+use Rattle.std.proofs.lemmas.List.{get_or-map, get_or_default, length-map, take-append-drop, take_all, take_more}
 use Rattle.std.proofs.lemmas.List.Elements.{Contains-get_or}
-use Rattle.indexmap.specs.IndexMap.{set_value_at}
 use Rattle.rn_pattern.specs.Graph.{row}
 use Rattle.rn_pattern.specs.Tree.{Tree}
+use Rattle.rn_pattern.proofs.Graphs.BuiltRows.{row_before, row_behind}
 use Rattle.rn_pattern.proofs.Ordered.InOrder.{contained_each}
 use Rattle.rn_text.specs.Texts.{Text, text_cmp}
 use Rattle.rn_pattern.specs.View.{pattern_view}
 use Rattle.rn_pattern.specs.declared.tree.Pattern.{Pattern}
 use Rattle.rn_assemble.specs.declared.bodies.Body.{Body}
 use Rattle.rn_assemble.specs.declared.refusal.Refusal.{Refusal}
-use Rattle.rn_assemble.specs.Combine.{defined_names, joined_grammar, joined_pattern}
+use Rattle.rn_assemble.specs.Combine.{AreDistinct, defined_names, joined_grammar, joined_pattern}
 use Rattle.rn_assemble.specs.Components.{Component, has_key, name_key, start_key}
 use Rattle.rn_assemble.specs.DefinitionsView.{definitions_view}
-use Rattle.rn_assemble.specs.inside.CombinedDefinitions.{AreDefinitions}
+use Rattle.rn_assemble.specs.inside.JoinedDefinitions.{AreDefinitions}
 use Rattle.rn_assemble.specs.Firsts.{joined_members}
 use Rattle.rn_assemble.specs.Refusal.{BreaksNameRules}
 use Rattle.rn_assemble.specs.inside.Joining.{IsMisnamed}
 use Rattle.rn_assemble.specs.inside.ReferenceOrder.{AreDefinedKeys}
-use Rattle.rn_assemble.specs.inside.Tied.{AreTied, HasRow, HaveTied, firsts_of}
+use Rattle.rn_assemble.specs.inside.Tied.{AreTied, HaveTied, firsts_of}
 use Rattle.rn_assemble.specs.inside.Keyed.{key_at}
 use Rattle.rn_assemble.specs.inside.Listed.{Live, ListsBy, components_in}
 use Rattle.rn_assemble.specs.inside.Patterns.{IsKeptPattern, IsMisnamedAs, lesser}
 use Rattle.rn_assemble.specs.inside.Trees.{AgreeAt, AgreeElsewhere, TreeView}
 use Rattle.rn_assemble.proofs.Joining.DefinedKeys.{number_name}
 use Rattle.rn_assemble.proofs.Joining.DefinedNames.{defined_has, has_defined}
+use Rattle.rn_assemble.proofs.Joining.DistinctNames.{joined_distinct, new_name}
 use Rattle.rn_assemble.proofs.Joining.KeyPatterns.{breaks_has, misnamed_first, misnamed_for}
 use Rattle.rn_assemble.proofs.Joining.SettlingOrders.{above_start, key_named, keys_differ, size}
 use Rattle.rn_assemble.proofs.Referring.DefinitionNumbers.{nothing}
 use Rattle.rn_assemble.proofs.Referring.KeyNumbers.{keyed_name, same_at}
 use Rattle.rn_assemble.proofs.Referring.LeastKeys.{no_key}
-use Rattle.rn_assemble.proofs.Referring.ListedNames.{names_stay, put_is}
 
 -- ---- the least number noted
 
@@ -64,11 +65,10 @@ module _ (names : List Text) (cs : List Component) (keys : List ℕ) where
   abbrev key_of : ℕ → ℕ
   key_of i = get_or keys i 0
 
-  -- all names stand there, and the bodies of the keys before the index are made or noted, with the first places of their members; the trees of the others are what they were
+  -- the definitions of the keys before the index are made or noted, with the first places of their members; the trees of the others are what they were
   pub record Defining (first now : TreeView) (least : Option ℕ) (ds : List (Text × Tree)) (rows : List (List ℕ)) (i : ℕ) : Type 0 where
-    pub named : map (λ (d : Text × Tree). d.0) ds ≡ defined_names cs
-    pub made : least ≡ None → (j : ℕ) → j < i → get_or ds j nothing ≡ get_or (joined_grammar cs).definitions j nothing
-    pub size : length rows ≤ i
+    pub made : least ≡ None → ds ≡ take i (joined_grammar cs).definitions
+    pub size : least ≡ None → length rows ≡ i
     pub tied : least ≡ None → (j : ℕ) → j < i → AreTied (row rows j) (joined_members (get_or (joined_grammar cs).definitions j nothing).1)
     pub noted : (j : ℕ) → j < i → BreaksNameRules cs (key_at names (key_of j)) → IsSomeAnd least (λ m. m ≤ key_of j)
     pub breaks : IfSome least (λ m. (m < suc (length names)) × BreaksNameRules cs (key_at names m))
@@ -106,11 +106,10 @@ module _ (names : List Text) (cs : List Component) (keys : List ℕ) where
     pub key_name : (i : ℕ) → i < length keys → get_or names (key_of i - 1) [] ≡ name_of i
     key_name i l = keyed_name (get_or names (key_of i - 1) []) (name_of i) (sym (number_name names (key_of i) (key_above i l)) ∙ key_is i l)
 
-    pub defining_begins : (first now : TreeView) (ds : List (Text × Tree)) → map (λ (d : Text × Tree). d.0) ds ≡ defined_names cs → ((n : ℕ) → 0 < n → AgreeAt first now n) → Defining first now None ds [] 0
-    defining_begins first now ds named agree = record {
-      named = named;
-      made = λ _ j l. absurd (omega (arith, l));
-      size = omega arith;
+    pub defining_begins : (first now : TreeView) → ((n : ℕ) → 0 < n → AgreeAt first now n) → Defining first now None [] [] 0
+    defining_begins first now agree = record {
+      made = λ _. refl;
+      size = λ _. refl;
       tied = λ _ j l. absurd (omega (arith, l));
       noted = λ j l b. absurd (omega (arith, l));
       breaks = tt;
@@ -128,28 +127,35 @@ module _ (names : List Text) (cs : List Component) (keys : List ℕ) where
       earlier_or_here : (P : ℕ → Type 0) → ((j : ℕ) → j < i → P j) → P i → (j : ℕ) → j < i + 1 → P j
       earlier_or_here P f p j m = elim (cases_lt j i) [ inl earlier ↦ f j earlier | inr late ↦ subst P (let e : i ≡ j = omega (arith, m, late) in e) p ]
 
-      -- the key has a pattern, which is put beside its name
-      pub defining_more : (then : TreeView) (ds' : List (Text × Tree)) (rows' : List (List ℕ)) (v : List ℕ) (p : Pattern) → IsKeptPattern cs (key_at names key) (Some p) → AgreeElsewhere then now key
-          → ds' ≡ set_value_at ds i (pattern_view p) → HasRow rows rows' i v → AreTied v (joined_members (joined_pattern cs (key_at names key))) → Defining first then least ds' rows' (i + 1)
-      defining_more then ds' rows' v p kept agree put has tied =
+      -- the name of the key is that of no definition so far, and with its own there are those of one key more
+      new_here : least ≡ None → (x : Text) → x ≡ name_of i → list_any (bytes_eq x) (map (λ (d : Text × Tree). d.0) ds) ≡ false
+      new_here none x is =
           let made = (joined_grammar cs).definitions in
-          let d : Text × Tree = ((get_or ds i nothing).0, pattern_view p) in
-          let is : ds' ≡ set ds i d = put ∙ put_is ds i (pattern_view p) in
-          let within : i < length ds = omega (arith, l, count, ap length h.named, length-map ds (λ (d : Text × Tree). d.0)) in
-          let name : (get_or ds i nothing).0 ≡ name_of i = sym (get_or-map (λ (d : Text × Tree). d.0) ds i nothing [] within) ∙ ap (λ xs. get_or xs i []) h.named in
+          let within : i < length made = omega (arith, l, size names cs keys defined) in
+          let parted : made ≡ take i made ++ get_or made i nothing ∷ drop (i + 1) made =
+          sym (take-append-drop (i + 1) made) ∙ ap (λ ds. ds ++ drop (i + 1) made) (take_more made i nothing within) ∙ append_assoc (take i made) (get_or made i nothing ∷ []) (drop (i + 1) made) in
+          let new = new_name (take i made) (get_or made i nothing) (drop (i + 1) made) (subst AreDistinct parted (joined_distinct cs)) in
+          subst (λ es. list_any (bytes_eq x) (map (λ (d : Text × Tree). d.0) es) ≡ false) (sym (h.made none))
+          (subst (λ y. list_any (bytes_eq y) (map (λ (d : Text × Tree). d.0) (take i made)) ≡ false) (ap (λ (d : Text × Tree). d.0) (definition_at i l) ∙ sym is) new)
+
+      -- the key has a pattern, which is added with its name
+      pub defining_more : (then : TreeView) (ds' : List (Text × Tree)) (rows' : List (List ℕ)) (v : List ℕ) (x : Text) (p : Pattern) → x ≡ name_of i → IsKeptPattern cs (key_at names key) (Some p) → AgreeElsewhere then now key
+          → (list_any (bytes_eq x) (map (λ (d : Text × Tree). d.0) ds) ≡ false → ds' ≡ ds ++ (x, pattern_view p) ∷ []) → rows' ≡ rows ++ v ∷ [] → AreTied v (joined_members (joined_pattern cs (key_at names key)))
+          → Defining first then least ds' rows' (i + 1)
+      defining_more then ds' rows' v x p is kept agree put row_put tied =
+          let made = (joined_grammar cs).definitions in
+          let within : i < length made = omega (arith, l, size names cs keys defined) in
           let tree : Some (pattern_view p) ≡ Some (joined_pattern cs (key_at names key)) = kept.0 ∙ ap (λ b. cond b (Some (joined_pattern cs (key_at names key))) None) (key_has i l) in
           let here : pattern_view p ≡ joined_pattern cs (key_at names key) = cc in
           let body : pattern_view p ≡ joined_pattern cs (name_key (name_of i)) = here ∙ ap (joined_pattern cs) (key_is i l) in
           let of_name : joined_pattern cs (key_at names key) ≡ (get_or made i nothing).1 = ap (joined_pattern cs) (key_is i l) ∙ ap (λ (d : Text × Tree). d.1) (sym (definition_at i l)) in
-          let is_made : get_or (set ds i d) i nothing ≡ get_or made i nothing = get_or-set_same ds i d nothing within ∙ (λ k. (name k, body k)) ∙ sym (definition_at i l) in
+          let is_made : ◌≡◌ {A = Text × Tree} (x, pattern_view p) (get_or made i nothing) = (λ k. (is k, body k)) ∙ sym (definition_at i l) in
           record {
-            named = ap (map (λ (d : Text × Tree). d.0)) put ∙ names_stay ds i (pattern_view p) ∙ h.named;
-            made = λ none. subst (λ es. (j : ℕ) → j < i + 1 → get_or es j nothing ≡ get_or made j nothing) (sym is)
-                (earlier_or_here (λ j. get_or (set ds i d) j nothing ≡ get_or made j nothing) (λ j m. get_or-set_other ds i j d nothing (λ at. omega (arith, m, at)) ∙ h.made none j m) is_made);
-            size = omega (arith, has.within);
+            made = λ none. put (new_here none x is) ∙ (λ k. h.made none k ++ is_made k ∷ []) ∙ sym (take_more made i nothing within);
+            size = λ none. ap length row_put ∙ length-append rows (v ∷ []) ∙ ap (λ n. n + 1) (h.size none);
             tied = λ none. earlier_or_here (λ j. AreTied (row rows' j) (joined_members (get_or made j nothing).1))
-                (λ j m. subst (λ r. AreTied r (joined_members (get_or made j nothing).1)) (sym (has.kept j m)) (h.tied none j m))
-                (subst (λ r. AreTied r (joined_members (get_or made i nothing).1)) (sym has.is) (subst (λ t. AreTied v (joined_members t)) of_name tied));
+                (λ j m. subst (λ r. AreTied r (joined_members (get_or made j nothing).1)) (sym (row_before rows rows' v j row_put (omega (arith, m, h.size none)))) (h.tied none j m))
+                (subst (λ r. AreTied r (joined_members (get_or made i nothing).1)) (sym (ap (row rows') (sym (h.size none)) ∙ row_behind rows rows' v row_put)) (subst (λ t. AreTied v (joined_members t)) of_name tied));
             noted = earlier_or_here (λ j. BreaksNameRules cs (key_at names (key_of j)) → IsSomeAnd least (λ m. m ≤ key_of j)) h.noted (λ b. absurd (kept.1 b));
             breaks = h.breaks;
             left = others_left then agree;
@@ -158,9 +164,8 @@ module _ (names : List Text) (cs : List Component) (keys : List ℕ) where
       -- it breaks the restrictions on name classes, and is noted
       pub defining_noted : (then : TreeView) → BreaksNameRules cs (key_at names key) → AgreeElsewhere then now key → Defining first then (lesser key least) ds rows (i + 1)
       defining_noted then breaks agree = record {
-        named = h.named;
         made = λ none. absurd (lesser_some key least none);
-        size = omega (arith, h.size);
+        size = λ none. absurd (lesser_some key least none);
         tied = λ none. absurd (lesser_some key least none);
         noted = earlier_or_here (λ j. BreaksNameRules cs (key_at names (key_of j)) → IsSomeAnd (lesser key least) (λ m. m ≤ key_of j)) (λ j m b. lesser_kept key (key_of j) least (h.noted j m b)) (λ b. lesser_here key least);
         breaks = lesser_all (λ m. (m < suc (length names)) × BreaksNameRules cs (key_at names m)) key least (key_within i l, breaks) h.breaks;
@@ -192,8 +197,7 @@ module _ {first : TreeView} (names : List Text) (bodies : List Body) (list : Lis
   defining_ends least entries h none is =
       let made = (joined_grammar cs).definitions in
       let all : length made ≤ i = omega (arith, past, size names cs keys defined) in
-      let as_many : length ds ≡ length made = sym (length-map ds (λ (d : Text × Tree). d.0)) ∙ ap length h.named ∙ count names cs keys defined ∙ size names cs keys defined in
-      let are : definitions_view entries ≡ made = is ∙ ext_get_or nothing ds made as_many (λ j l. h.made none j (omega (arith, l, as_many, all))) in
+      let are : definitions_view entries ≡ made = is ∙ h.made none ∙ take_all i made all in
       record {
         are = are;
         tied = subst (HaveTied (firsts_of firsts)) (sym are) (λ n d l. subst (λ (e : Text × Tree). AreTied (row (firsts_of firsts) n) (joined_members e.1)) (get_or_default made n nothing d l) (h.tied none n (omega (arith, l, all))));

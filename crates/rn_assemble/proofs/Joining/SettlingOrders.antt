@@ -149,6 +149,13 @@ module _ (names : List Text) (sorted : IsStrictlySortedBy text_cmp names) (cs : 
         let h = key_of x k e in
         held number order (get_or keys k 0) k (o.listed x (get_or keys k 0) r h.key_is) h.number_is
 
+    reached : (i : ℕ) (x : Text) → i < length made → number_of ds x ≡ Some (get_or made i 0) → ∥ IsReached G x ∥₁
+    reached i x l e =
+        let m : i < length order = omega (arith, l, length-map order number) in
+        let r = o.reached (get_or order i 0) (Contains-get_or order i 0 m) in
+        let w = placed i l in
+        ∣ subst (IsReached G) (same_placed w.name x (get_or made i 0) w.number_is e) r.2 ∣₁
+
     behind : (i k : ℕ) (x y : Text) (p : Tree) → i < length made → number_of ds x ≡ Some (get_or made i 0) → definition_of G x ≡ Some p → RefersOutside y p → number_of ds y ≡ Some k → holds (take i made) k ≡ true
     behind i k x y p l e d r f =
         let w = placed i l in
@@ -160,4 +167,4 @@ module _ (names : List Text) (sorted : IsStrictlySortedBy text_cmp names) (cs : 
         ap (λ (ns : List ℕ). list_any (nat_eq k) ns) (take-map number i order) ∙ held number (take i order) (get_or keys k 0) k c h.number_is
 
     pub settling_order_is : IsSettlingOrder G made
-    settling_order_is = record { within = within; once = once; listed = listed; behind = behind }
+    settling_order_is = record { within = within; once = once; listed = listed; reached = reached; behind = behind }

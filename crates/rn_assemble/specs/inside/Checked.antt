@@ -10,6 +10,7 @@ use Rattle.rn_assemble.specs.declared.refusal.Refusal.TheVariants as r
 use Rattle.rn_assemble.specs.Components.{NamedModule, set_components}
 use Rattle.rn_assemble.specs.inside.Expanded.{IsListed}
 use Rattle.rn_assemble.specs.inside.Included.{AreIncluded}
+use Rattle.rn_assemble.specs.inside.Joining.{IsSound}
 use Rattle.rn_assemble.specs.inside.Lacking.{IsLeastLack}
 use Rattle.rn_assemble.specs.inside.Trees.{TreeView}
 use Rattle.rn_assemble.specs.Refusal.{Refusal, override, IsFirstFor, Lacks, StandsFor, grammar_of}
@@ -32,6 +33,10 @@ abbrev pub IsLacking : List NamedModule → code.Refusal → Type 0
 IsLacking modules (r.Override m k) = StandsFor modules (override (string_bytes m) (key_view k))
 IsLacking modules r.Memory = ⊤
 IsLacking modules _ = ⊥
+
+-- where no refusal stands for the modules, their grammar is well formed and can be written
+abbrev pub KeepsWellFormed : List NamedModule → Type 0
+KeepsWellFormed modules = ((q : Refusal) → ¬ StandsFor modules q) → IsSound (grammar_of modules)
 
 -- no refusal stands for the modules, and this is their grammar
 abbrev pub IsGrammarOf : List NamedModule → Grammar → Type 0

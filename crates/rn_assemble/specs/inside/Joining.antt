@@ -1,15 +1,17 @@
--- The grammar of combined patterns, and what stands against it (RELAX NG 2001, 4.16, 4.17).
+-- The grammar to which components are joined, and what stands against it (RELAX NG 2001, 4.16, 4.17).
 use Rattle.std.specs.Prelude.{◌≡◌, ℕ, true, List, ⊤}
 use Rattle.std.specs.List.Sorted.{IsStrictlySortedBy}
 use Rattle.rn_text.specs.Texts.{Text, text_cmp}
+use Rattle.rn_pattern.specs.Matching.{Grammar}
 use Rattle.rn_assemble.specs.declared.components.Components.{Components}
-use Rattle.rn_assemble.specs.declared.combined_grammar.Combined.{Combined}
+use Rattle.rn_assemble.specs.declared.grammar.Grammar as code
 use Rattle.rn_assemble.specs.declared.refusal.Refusal.{Refusal}
 use Rattle.rn_assemble.specs.declared.refusal.Refusal.TheVariants as r
 use Rattle.rn_assemble.specs.Components.{Key, Component, has_key, start_key}
 use Rattle.rn_assemble.specs.Combine.{joined_grammar}
-use Rattle.rn_assemble.specs.inside.CombinedView.{combined_view}
+use Rattle.rn_assemble.specs.GrammarView.{grammar_view}
 use Rattle.rn_assemble.specs.Least.{IsLeast, key_cmp}
+use Rattle.rn_assemble.specs.WellFormed.{HasWritableTexts, IsWellFormed}
 use Rattle.rn_assemble.specs.inside.Listed.{Live, Lists, components_in}
 use Rattle.rn_assemble.specs.inside.ReferenceOrder.{AreDefinedKeys}
 use Rattle.rn_assemble.specs.inside.Trees.{TreeView}
@@ -17,14 +19,22 @@ use Rattle.rn_assemble.specs.Refusal.{BreaksNameRules}
 use Rattle.rn_assemble.specs.Refused.{key_view}
 use Rattle.rn_assemble.specs.SettlingOrder.{IsSettlingOrder}
 
--- the components are listed by the numbers of these names and have these trees, one of them is of the start, these keys are those that they define, and what they are joined to can be settled in this order
-abbrev pub CanBeSettled : List Text → TreeView → Components → (defined order : List ℕ) → Type 0
-CanBeSettled names trees x defined order = (live : List Live) × Lists names trees x live × IsStrictlySortedBy text_cmp names × (has_key start_key (components_in live) ≡ true)
-    × AreDefinedKeys names (components_in live) defined × IsSettlingOrder (joined_grammar (components_in live)) order
+-- the grammar is well formed and can be written
+abbrev pub IsSound : Grammar → Type 0
+IsSound G = IsWellFormed G × HasWritableTexts G
+
+-- what the components are joined to is sound where no key breaks the restrictions on name classes
+abbrev pub AreSoundIfNamed : List Component → Type 0
+AreSoundIfNamed cs = ((k : Key) → ¬ BreaksNameRules cs k) → IsSound (joined_grammar cs)
+
+-- the components are listed by the numbers of these names and have these trees, one of them is of the start, these keys are those that they define, and what they are joined to can be settled in this order, and is sound if its name classes are
+abbrev pub CanBeJoined : List Text → TreeView → Components → (defined order : List ℕ) → Type 0
+CanBeJoined names trees x defined order = (live : List Live) × Lists names trees x live × IsStrictlySortedBy text_cmp names × (has_key start_key (components_in live) ≡ true)
+    × AreDefinedKeys names (components_in live) defined × IsSettlingOrder (joined_grammar (components_in live)) order × AreSoundIfNamed (components_in live)
 
 -- the components' grammar, in which no key breaks the restrictions on name classes
-pub record IsCombinedGrammar (cs : List Component) (c : Combined) : Type 0 where
-  pub is : combined_view c ≡ joined_grammar cs
+pub record IsJoinedGrammar (cs : List Component) (g : code.Grammar) : Type 0 where
+  pub is : grammar_view g ≡ joined_grammar cs
   pub keeps : (k : Key) → ¬ BreaksNameRules cs k
 
 -- the least key that breaks the restrictions on name classes, or want of memory

@@ -2,6 +2,7 @@
 use Rattle.std.specs.Prelude.{ℕ, List, Option, Some, None, IfSome}
 use Rattle.std.specs.Coded.{×_prop, Π_prop, Unit-prop, le_prop}
 use Rattle.std.proofs.Math.Bool.{Bool-set}
+use Rattle.std.proofs.Math.Logic.{∥∥₁_prop}
 use Rattle.rn_pattern.specs.Tree as t
 use Rattle.rn_pattern.specs.Tree.{NameTree, NameTrees, any_name, any_name_but, ns_name, ns_name_but, name, name_choice, no_names, more_names, Tree, Trees, no_trees, more_trees}
 use Rattle.rn_pattern.specs.Matching.{Grammar, definition_of}
@@ -133,5 +134,6 @@ IsSettlingOrder-prop G order v w = λ i. record {
   within = Π_prop (λ k. Π_prop (λ l. le_prop)) v.within w.within i;
   once = Π_prop (λ k. Π_prop (λ j. Π_prop (λ l. Π_prop (λ m. never_prop)))) v.once w.once i;
   listed = Π_prop (λ x. Π_prop (λ k. Π_prop (λ r. Π_prop (λ e. Bool-set _ _)))) v.listed w.listed i;
+  reached = Π_prop (λ k. Π_prop (λ x. Π_prop (λ l. Π_prop (λ e. ∥∥₁_prop)))) v.reached w.reached i;
   behind = Π_prop (λ k. Π_prop (λ j. Π_prop (λ x. Π_prop (λ y. Π_prop (λ p. Π_prop (λ l. Π_prop (λ e. Π_prop (λ d. Π_prop (λ r. Π_prop (λ n. Bool-set _ _)))))))))) v.behind w.behind i;
 }

@@ -1,5 +1,5 @@
 -- Members of a joined list that the code finds to be the same: first places, and the bodies that tell them (RELAX NG 2001, 4.17).
-use Rattle.std.specs.Prelude.{ℕ, suc, ◌≡◌, ◌≤◌, ◌<◌, List, length, slice_get, slice_index_or, map, Option, Some, option_and_then, Vec}
+use Rattle.std.specs.Prelude.{ℕ, ◌≡◌, ◌≤◌, ◌<◌, List, length, slice_get, slice_index_or, map, Option, Some, option_and_then, Vec}
 use Rattle.std.specs.declared.alloc.Global.{Global}
 use Rattle.std.specs.Coded.{×_prop, Π_prop, le_prop}
 use Rattle.std.specs.Ordering.{Ordering-set}
@@ -22,12 +22,6 @@ firsts_of vs = map (λ (v : Vec ℕ Global). v.items) vs
 -- the first places of the members of each definition
 abbrev pub HaveTied : List (List ℕ) → List (Text × Tree) → Type 0
 HaveTied rows ds = (n : ℕ) (d : Text × Tree) → n < length ds → AreTied (row rows n) (joined_members (slice_index_or ds n d).1)
-
--- this row stands at a number behind all others, and those before it are as they were
-pub record HasRow (old new : List (List ℕ)) (number : ℕ) (r : List ℕ) : Type 0 where
-  pub within : length new ≤ suc number
-  pub kept : (m : ℕ) → m < number → row new m ≡ row old m
-  pub is : row new number ≡ r
 
 -- each has one proof at most, so that structs can hold it
 pub AreTied-prop : (firsts : List ℕ) (members : List Tree) → IsProp (AreTied firsts members)

@@ -14,7 +14,7 @@ use Rattle.rn_merge.proofs.Verdicts.SetVerdict.{verdict_of_refusal, one_of_verdi
 
 verdict_of_run : (bundles : List (List ℕ)) (old new : Option (List ℕ)) (failed : Bool) (status : Status) → IsRun bundles old new failed (Ok status) → (s : List Member) × (v : Verdict) × IsUnion bundles s × IsVerdict s v × Tells old new status v
 verdict_of_run bundles old new failed Done (s, u, (text, is, appends, sound)) = (s, prints text, u, is.verdict, (text, refl, appends))
-verdict_of_run bundles old new failed (Refused q) (s, u, (h, first)) = let (v, e, is) = verdict_of_refusal s q h in (s, v, u, is, e)
+verdict_of_run bundles old new failed (Refused q) (s, u, h) = let (v, e, is) = verdict_of_refusal s q h in (s, v, u, is, e)
 
 pub one_told : (bundles others : List (List ℕ)) (old new before after : Option (List ℕ)) (failed broken : Bool) (status other : Status)
     → IsRun bundles old new failed (Ok status) → IsRun others before after broken (Ok other) → BringSame bundles others → (v : Verdict) × Tells old new status v × Tells before after other v

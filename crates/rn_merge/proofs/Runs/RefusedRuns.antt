@@ -8,12 +8,11 @@ use Rattle.rn_merge.specs.declared.run.RunFault.TheVariants.{Bundle, Full, Memor
 use Rattle.rn_merge.specs.declared.run.Status.{Status}
 use Rattle.rn_merge.specs.Runs.{IsUnion, IsPrinting, IsRun, LeavesSink}
 use Rattle.rn_merge.specs.inside.Outcomes.{refusal_outcome}
-use Rattle.rn_merge.specs.Schemas.{RefusesFirst}
 use Rattle.rn_merge.specs.Verdicts.{IsRefusedAs}
 
-pub refused_printing : (old new : Option (List ℕ)) (failed : Bool) (s : List Member) (q : code.Refusal) → IsRefusedAs s q → RefusesFirst s q → IsPrinting s old new failed (refusal_outcome q)
-refused_printing old new failed s r.Memory h first = tt
-refused_printing old new failed s q h first = (h, first)
+pub refused_printing : (old new : Option (List ℕ)) (failed : Bool) (s : List Member) (q : code.Refusal) → IsRefusedAs s q → IsPrinting s old new failed (refusal_outcome q)
+refused_printing old new failed s r.Memory h = tt
+refused_printing old new failed s q h = h
 
 pub refused_leaves : (q : code.Refusal) (Kept : Type 0) → Kept → LeavesSink (refusal_outcome q) Kept
 refused_leaves r.Memory Kept kept = kept

@@ -1,6 +1,6 @@
 -- What follows of the verdict of a set: of its text, and of a refusal.
 use Rattle.std.proofs.Common.{◌≡◌, ◌∷◌, [], List, refl, subst, sym}
-use Rattle.std.specs.Prelude.{IfErr, IfOk, IsErrAnd, Ok, Err, Some, string_bytes}
+use Rattle.std.specs.Prelude.{IfErr, IfOk, IsErrAnd, IsSomeAnd, MatchOption, Ok, Err, Option, None, Some, string_bytes}
 use Rattle.rn_text.specs.Texts.{Text}
 use Rattle.rn_pattern.specs.Matching.{Grammar}
 use Rattle.rn_pattern.specs.Reached.{IsCanonicalOf}
@@ -12,13 +12,13 @@ use Rattle.rn_assemble.specs.Renamed.{IsOfKnownUris}
 use Rattle.rn_assemble.specs.ShortTexts.{IsKnown, IsShortened, ShortTexts, long_grammar, long_uri}
 use Rattle.rn_assemble.proofs.Renaming.ShortTables.{table_renames}
 use Rattle.rn_simplify.specs.Printing.{IsPrinted, IsUnprinted}
-use Rattle.rn_simplify.specs.Verdict.{IsVerdict, prints, too_large, too_deep}
+use Rattle.rn_simplify.specs.Verdict.{IsVerdict, Verdict, prints, too_large, too_deep}
 use Rattle.rn_simplify.proofs.Printed.PrintedAgain.{printed_again}
 use Rattle.rn_simplify.proofs.Printed.PrintedSets.{printed_read}
 use Rattle.rn_simplify.proofs.Renaming.CanonicalGrammars.{canonical_renamed}
 use Rattle.rn_simplify.proofs.Renaming.KnownUris.{known_canonical}
 use Rattle.rn_merge.specs.Schemas.{IsSchemaOfSet, RefusesFirst}
-use Rattle.rn_merge.specs.Verdicts.{Answer, IsAnswer, IsRefusedAs}
+use Rattle.rn_merge.specs.Verdicts.{Answer, IsAnswer, IsRefusedAs, verdict_view}
 use Rattle.rn_merge.proofs.Verdicts.LoneContributions.{effective_alone}
 use Rattle.rn_merge.proofs.Verdicts.Clashes.{plain_once, one_method}
 use Rattle.rn_merge.proofs.Verdicts.SetVerdict.{answered, unrefused}
@@ -46,6 +46,14 @@ refuses_first s r.OutputTooLarge h = λ some. unrefused s too_large (λ q. λ k.
 refuses_first s r.OutputTooDeep h = λ some. unrefused s too_deep (λ q. λ k. cc) h
 refuses_first s r.Memory h = λ some. absurd (some refl)
 refuses_first s q h = h
+
+as_refused : (s : List Member) (q : code.Refusal) (o : Option Verdict) → IsSomeAnd o (IsVerdict s) → MatchOption o (q ≡ r.Memory) (IsVerdict s)
+as_refused s q None h = absurd h
+as_refused s q (Some v) h = h
+
+-- a refusal that is the verdict is the first
+pub verdict_refuses_first : (s : List Member) (q : code.Refusal) → IsSomeAnd (verdict_view q) (IsVerdict s) → RefusesFirst s q
+verdict_refuses_first s q h = refuses_first s q (as_refused s q (verdict_view q) h)
 
 -- what is answered in the place of a schema is the first refusal
 pub answered_refusal : (s : List Member) (answer : Answer) → IsAnswer s answer → IfErr answer (RefusesFirst s)

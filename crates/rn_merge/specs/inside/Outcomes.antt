@@ -33,13 +33,6 @@ text_place (reading.Encoding at) = placing.Encoding at
 text_place (reading.Lexical at) = placing.Lexical at
 text_place reading.Memory = placing.Memory
 
--- the fault of the program where a run comes to nothing
-abbrev pub run_fault : RunFault → ProgramFault
-run_fault (running.Bundle index fault) = failing.Bundle index fault
-run_fault running.Full = failing.Add adding.Full
-run_fault running.Memory = failing.Memory
-run_fault running.Write = failing.Write
-
 -- a parse fails for memory, or the words are wrong
 abbrev pub parse_fault : ErrorKind → ProgramFault
 parse_fault parsing.OutOfMemory = failing.Memory

@@ -16,7 +16,7 @@ use Rattle.rn_pattern.proofs.CanonicalForms.CanonicalForm.{canonical_all_are}
 use Rattle.rn_pattern.proofs.CanonicalForms.ListsWithin.{choice_within, group_within, interleave_within}
 use Rattle.rn_pattern.proofs.Ordered.PatternKinds.{choice_seen, group_seen, interleave_seen}
 use Rattle.rn_simplify.specs.inside.ListParts.{members_step, parts, parts_of}
-use Rattle.rn_simplify.specs.declared.list_kind.ListKind.{ListKind}
+use Rattle.rn_simplify.specs.declared.stored_forms.ListKind.{ListKind}
 
 -- the parts of a list of the kind are those of its members
 module _ (kind : ListKind) (p : Pattern) (v : Vec (Rc Pattern Global) Global) (xs : List (Rc Pattern Global)) (h : xs ≡ v.items) where

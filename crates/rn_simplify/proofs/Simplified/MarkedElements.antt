@@ -31,11 +31,3 @@ module _ {X S : Type 0} (R : S → X → Bool → S → Type 0) (marks : S → L
 
   pub retained : (s : S) (xs ys : List X) → IsFiltered R s xs ys → ys ≡ marked_elements (marks s) xs
   retained s xs ys k = k.4 ∙ told k.0 xs s k.1 k.2 k.3
-
--- where all have a mark, that is the list itself
-pub all_marked_are : {X : Type 0} (bs : List Bool) (xs : List X) → length bs ≡ length xs → list_all (λ b. b) bs ≡ true → marked_elements bs xs ≡ xs
-all_marked_are [] [] e h = refl
-all_marked_are [] (x ∷ xs) e h = absurd (omega (arith, e))
-all_marked_are (b ∷ bs) [] e h = refl
-all_marked_are (true ∷ bs) (x ∷ xs) e h = ap (λ ys. x ∷ ys) (all_marked_are bs xs (omega (arith, e)) h)
-all_marked_are (false ∷ bs) (x ∷ xs) e h = absurd (false≢true h)

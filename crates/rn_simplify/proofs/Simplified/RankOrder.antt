@@ -33,7 +33,7 @@ module _ (G : Grammar) (t : Text → Tree) (rank : Text → ℕ) (k : IsSettling
   same_body : (y : Text) (q : Tree) → IsReached G y → definition_of G y ≡ Some q → canonical s q ≡ canonical t q
   same_body y q r e = same_form q (λ x h. by_definition q r e h)
 
-  into_canonical : (x : Text) → IsReached F x → IsReached A x
+  pub into_canonical : (x : Text) → IsReached F x → IsReached A x
   into_canonical x (by_start h) = by_start (subst (RefersTo x) (sym same_start) h)
   into_canonical x (by_definition {y = y} p r e h) =
       let into = into_canonical y r in

@@ -83,11 +83,11 @@ settled_definitions ds kinds = map (λ d. (d.0, canonical (becomes_by ds kinds) 
 
 -- the kind of the form of a name's definition, by what the code holds
 abbrev pub kind_in : SettledDefinitions → Text → FormKind
-kind_in s = kind_at (definitions_view s.definitions.now.entries.items) s.kinds.of_each.items
+kind_in s = kind_at (definitions_view s.definitions.now.entries) s.kinds.items
 
 -- what the reference to a name becomes, by what the code holds
 abbrev pub becomes : SettledDefinitions → Text → Tree
-becomes s = becomes_by (definitions_view s.definitions.now.entries.items) s.kinds.of_each.items
+becomes s = becomes_by (definitions_view s.definitions.now.entries) s.kinds.items
 
 -- the canonical form of a pattern, whose references become what the code holds
 abbrev pub settled_form : SettledDefinitions → Tree → Tree

@@ -2,7 +2,7 @@
 use Rattle.std.specs.Prelude.{List, [], ◌∷◌, ◌++◌}
 use Rattle.rn_pattern.specs.Tree.{Tree, Trees, group, interleave, choice, no_trees, more_trees}
 use Rattle.rn_pattern.specs.Canonical.{choice_step, group_step, interleave_step}
-use Rattle.rn_simplify.specs.declared.list_kind.ListKind.{ListKind}
+use Rattle.rn_simplify.specs.declared.stored_forms.ListKind.{ListKind}
 
 abbrev mutual
   pub parts_of : ListKind → Tree → List Tree

@@ -1,12 +1,10 @@
--- The definitions of the keys so far, with the names that they will have, are made or noted, and the trees of the others are what they were.
-use Rattle.std.proofs.Common.{◌≡◌, ◌<◌, ℕ, List, None, length}
+-- The definitions of the keys so far are made or noted, and the trees of the others are what they were.
+use Rattle.std.proofs.Common.{◌≡◌, ◌<◌, ℕ, List, None}
 use Rattle.std.specs.List.Sorted.{IsStrictlySortedBy}
 use Rattle.rn_text.specs.Texts.{text_cmp}
-use Rattle.rn_assemble.specs.Combine.{defined_names}
 use Rattle.rn_assemble.specs.Components.{start_key}
 use Rattle.rn_assemble.specs.DefinitionsView.{definitions_view}
 use Rattle.rn_assemble.specs.Refusal.{BreaksNameRules}
-use Rattle.rn_assemble.specs.inside.CombinedDefinitions.{with_names}
 use Rattle.rn_assemble.specs.inside.Listed.{Lists, Live, components_in}
 use Rattle.rn_assemble.specs.inside.Patterns.{AreSharedBy}
 use Rattle.rn_assemble.specs.inside.ReferenceOrder.{AreDefinedKeys}
@@ -18,9 +16,8 @@ use Rattle.rn_assemble.proofs.definitions.definitions.Given as goal
 
 abbrev pub invariant-loop-number : goal.invariant-loop-number
 invariant-loop-number l = record {
-  count : length l.definitions.items ≡ length l.defined;
   met : AreMet l.components.list l.components.places.items l.met.items;
   defining : (view : TreeView) → ((key : ℕ) → 0 < key → AgreeAt view (trees_by l.fn.trees.trees.items) key) → (live : List Live) → Lists (names_of l.keys) view l.components live → IsStrictlySortedBy text_cmp (names_of l.keys)
       → ¬ BreaksNameRules (components_in live) start_key → l.fn.combining.least ≡ None → AreSharedBy l.keys view l.components l.fn.combining.shared.items → AreDefinedKeys (names_of l.keys) (components_in live) l.defined
-      → AreSharedBy l.keys view l.components l.combining.shared.items × Defining (names_of l.keys) (components_in live) l.defined view (trees_by l.trees.trees.items) l.combining.least (with_names (defined_names (components_in live)) (definitions_view l.definitions.items)) (firsts_of l.firsts.items) l.number;
+      → AreSharedBy l.keys view l.components l.combining.shared.items × Defining (names_of l.keys) (components_in live) l.defined view (trees_by l.trees.trees.items) l.combining.least (definitions_view l.defs.entries) (firsts_of l.firsts.items) l.number;
 }

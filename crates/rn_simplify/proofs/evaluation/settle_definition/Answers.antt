@@ -9,12 +9,12 @@ use Rattle.rn_simplify.proofs.evaluation.settle_definition.Goals as goal
 
 pub evaluate_body-requires : goal.evaluate_body-requires
 evaluate_body-requires c =
-    let n = c.args.number in
+    let n = c.args.id.0 in
     subst (λ p. AreFirsts c.firsts.result.now (joined_members p)) (sym (c.body_of-body.ensures nothing ∙ ap (λ ds. (get_or ds n nothing).1) c.requires.of))
-    (c.firsts.ensures nothing (omega (arith, c.requires.within, ap length c.requires.of, size_of_view c.args.settled.now.definitions.now.entries.items)))
+    (c.firsts.ensures nothing (omega (arith, c.requires.within, ap length c.requires.of, size_of_view c.args.settled.now.definitions.now.entries)))
 
 pub returns-clause-settled : goal.returns-clause-settled
 returns-clause-settled c = λ d.
-    let ds = definitions_view c.args.settled.now.definitions.now.entries.items in
-    let kinds = c.args.settled.now.kinds.of_each.items in
-    c.set.ensures ∙ ap (set kinds c.args.number) (c.in_ok-kind.ensures ∙ ap (tree_kind (kind_at ds kinds)) (c.body_of-body.ensures d) ∙ sym (evaluated_is (kind_at ds kinds) (get_or ds c.args.number d).1))
+    let ds = definitions_view c.args.settled.now.definitions.now.entries in
+    let kinds = c.args.settled.now.kinds.items in
+    c.set.ensures.kinds ∙ ap (set kinds c.args.id.0) (c.in_ok-kind.ensures ∙ ap (tree_kind (kind_at ds kinds)) (c.body_of-body.ensures d) ∙ sym (evaluated_is (kind_at ds kinds) (get_or ds c.args.id.0 d).1))

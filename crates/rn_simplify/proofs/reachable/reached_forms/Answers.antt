@@ -1,38 +1,20 @@
-use Rattle.std.proofs.Common.{◌≡◌, ℕ, List, length, sym, ap, ◌∙◌, refl, subst, arith}
-use Rattle.std.proofs.lemmas.Result.{IfOk-weaker}
-use Rattle.std.specs.Prelude.{Contains, Decides}
+use Rattle.std.proofs.Common.{refl, ap, ◌∙◌, subst}
+use Rattle.std.specs.Prelude.{IsPermutation}
 use Rattle.rn_pattern.specs.Matching.{Grammar}
 use Rattle.rn_pattern.specs.View.{pattern_view}
-use Rattle.rn_pattern.specs.Graph.{IsGraph, Reached, is_marked, rows_of}
 use Rattle.rn_assemble.specs.GrammarView.{definitions_view}
-use Rattle.rn_simplify.specs.inside.DefinitionNumbers.{graph_of, start_of, rows_by}
-use Rattle.rn_simplify.specs.inside.ReferredNames.{references}
-use Rattle.rn_simplify.proofs.Simplified.ReferenceGraph.{rows_graph, rows_size, numbers_below}
-use Rattle.rn_simplify.proofs.Simplified.PrunedForms.{rows_same, numbers_same}
+use Rattle.rn_simplify.specs.inside.DefinitionNumbers.{MarksReached}
+use Rattle.rn_simplify.specs.inside.MarkedElements.{marked_elements}
+use Rattle.rn_simplify.proofs.Simplified.PrunedForms.{pruned_is, kept_distinct}
 use Rattle.rn_simplify.proofs.reachable.reached_forms.Goals as goal
 
-pub reached_nodes-requires-clause-graph : goal.reached_nodes-requires-clause-graph
-reached_nodes-requires-clause-graph c =
-    let ds = definitions_view c.args.settled.now.definitions.now.entries.items in
-    let fs = definitions_view c.args.forms.now in
-    let graph : rows_of c.in_ok-rows.rows ≡ rows_by fs fs = c.in_ok-rows.ensures ∙ rows_same ds fs c.requires in
-    subst IsGraph (sym graph) (rows_graph fs fs refl)
-
-pub reached_nodes-requires-clause-first_within : goal.reached_nodes-requires-clause-first_within
-reached_nodes-requires-clause-first_within c = λ y k.
-    let ds = definitions_view c.args.settled.now.definitions.now.entries.items in
-    let fs = definitions_view c.args.forms.now in
-    let names = references (pattern_view c.args.start.now) in
-    let graph : rows_of c.in_ok-rows.rows ≡ rows_by fs fs = c.in_ok-rows.ensures ∙ rows_same ds fs c.requires in
-    let b = numbers_below fs names y (subst (λ (l : List ℕ). Contains l y) (c.deref.ensures.value ∙ c.in_ok-first.ensures ∙ numbers_same ds fs names c.requires) k) in
-    omega (arith, b, ap length graph, rows_size fs fs)
-
-pub returns-clause-reached : goal.returns-clause-reached
-returns-clause-reached c =
-    let ds = definitions_view c.args.settled.now.definitions.now.entries.items in
-    let fs = definitions_view c.args.forms.now in
-    let F : Grammar = record { start = pattern_view c.args.start.now; definitions = fs } in
-    let names = references (pattern_view c.args.start.now) in
-    let graph : rows_of c.in_ok-rows.rows ≡ graph_of F = c.in_ok-rows.ensures ∙ rows_same ds fs c.requires in
-    let first : c.deref.result.now ≡ start_of F = c.deref.ensures.value ∙ c.in_ok-first.ensures ∙ numbers_same ds fs names c.requires in
-    IfOk-weaker c.reached_nodes.result _ _ (λ marks exact k. subst (λ (l : List ℕ). Decides (is_marked marks.items k) (Reached (graph_of F) l k)) first (subst (λ (r : List (List ℕ)). Decides (is_marked marks.items k) (Reached r c.deref.result.now k)) graph (exact k))) c.reached_nodes.ensures.exact
+pub returns : goal.returns
+returns c =
+    let start = pattern_view c.args.start.now in
+    let forms = c.args.forms.items in
+    let F : Grammar = record { start = start; definitions = definitions_view forms } in
+    let marks = c.in_ok-is_reached.is_reached.items in
+    let kept = c.sort_by_name.new.forms.items in
+    let exact : MarksReached F marks = subst (λ es. MarksReached (record { start = start; definitions = definitions_view es }) marks) c.deref.ensures.value c.in_ok-is_reached.ensures.reached in
+    let moved : IsPermutation (marked_elements marks forms) kept = subst (λ xs. IsPermutation xs kept) (c.keep_marked.ensures ∙ ap (λ ms. marked_elements ms forms) c.deref-2.ensures.value) c.sort_by_name.ensures.moved in
+    pruned_is F forms kept marks refl moved exact (c.in_ok-sort_by_name.ensures.rising (kept_distinct F forms kept marks refl moved exact c.requires.distinct))

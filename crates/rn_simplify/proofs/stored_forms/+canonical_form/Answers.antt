@@ -70,8 +70,8 @@ canonical_form-returns-in-Choice-clause-made g t c =
 
 pub list_form-returns-clause-made : goal.list_form-returns-clause-made
 list_form-returns-clause-made g t c =
-    let ds = definitions_view c.args.settled.now.definitions.now.entries.items in
-    let kinds = c.args.settled.now.kinds.of_each.items in
+    let ds = definitions_view c.args.settled.now.definitions.now.entries in
+    let kinds = c.args.settled.now.kinds.items in
     let s = becomes_by ds kinds in
     let kind = c.args.kind in
     let ps = shared_trees c.args.members.now in

@@ -7,13 +7,13 @@ use Rattle.rn_assemble.proofs.grammar.Grammar.firsts.Goals as goal
 
 pub returns-in-Some : goal.returns-in-Some
 returns-in-Some c = λ d l.
-    let fs = c.args.self.now.joined.firsts.items in
+    let fs = c.args.self.now.firsts.items in
     let v = c.in-Some.firsts.now in
-    let ds = definitions_view c.args.self.now.joined.defs.entries in
+    let ds = definitions_view c.args.self.now.defs.entries in
     let there : v ≡ get_or fs c.args.number v = c.in-Some.ensures.lookup.1 ∙ ap (λ vs. get_or vs c.args.number v) c.deref.ensures.value in
     let within : c.args.number < length fs = omega (arith, ltb-true c.args.number (length c.deref.result.now) (sym c.in-Some.ensures.lookup.0), ap length c.deref.ensures.value) in
     subst (λ is. AreFirsts is (joined_members (get_or ds c.args.number d).1)) (row_there fs c.args.number v there within ∙ sym c.as_slice.ensures.value)
-    (tied_same _ _ (c.args.self.now.joined.tied c.args.number d l))
+    (tied_same _ _ (c.args.self.now.tied c.args.number d l))
 
 pub returns-in-None : goal.returns-in-None
 returns-in-None c = λ d l. tied_same [] _ (none_tied _)

@@ -1,8 +1,0 @@
-use Rattle.std.proofs.Common.{subst}
-use Rattle.rn_pattern.specs.Matching.{Grammar}
-use Rattle.rn_pattern.specs.Reached.{IsCanonicalOf}
-use Rattle.rn_simplify.specs.NormalParts.{parts_view}
-use Rattle.rn_simplify.proofs.normalising.normalise.Goals as goal
-
-pub normal_of-requires : goal.normal_of-requires
-normal_of-requires c = subst (λ (G : Grammar). IsCanonicalOf G (parts_view c.in_ok-parts.parts.start c.in_ok-parts.parts.defs.items)) c.listed.ensures c.in_ok-parts.ensures
