@@ -6,7 +6,7 @@ use Rattle.rn_text.specs.Characters.{is_xml_char}
 use Rattle.rn_text.specs.Tokens.{lexeme_of, HasTokens, LeavesXmlAt, StopsAt, Lexeme, lexeme_at}
 use Rattle.rn_text.proofs.Words.CharacterRuns.{cut_before}
 use Rattle.rn_text.proofs.Cutting.Cuts.{CutSoFar, run_cut, leaves_xml, all_xml, cut_from_start, stops_here, tokens_at_end, cut_more_bytes, no_lexeme, part_shortens, lexemes_more, same_lexeme}
-use Rattle.rn_text.proofs.source.read_tokens.Goals as goal
+use Rattle.rn_text.proofs.source.read_up_to_fault.Goals as goal
 
 pub overflow_sub-result : goal.overflow_sub-result
 overflow_sub-result c = let h = c.in-Ok.ensures.cases in (run_cut is_xml_char c.in-Ok.text.now c.after_xml-wrong.result.now (subst IsUtf8 (sym h.0) h.1) c.after_xml-wrong.utf8 c.after_xml-wrong.ensures).0
