@@ -52,7 +52,7 @@ pub fn tokens_are_spelled()
 
 /// What spells a kind is told by plain words of it: two names with a colon between them spell a prefixed one, and so on.
 pub fn kinds_are_spelled()
-    ensures { (kind : Kind) (cs : List ℕ) → (spells (Part.Token kind) cs ≡ true) ↔ IsSpelled kind cs }
+    ensures { (k : Kind) (cs : List ℕ) → (spells (Part.Token k) cs ≡ true) ↔ IsSpelled k cs }
 {}
 
 /// What spells a token is that token, where the text ends behind it or goes on with white space, one

@@ -33,7 +33,6 @@ mod sizes;
 #[cfg(test)]
 mod small_strings;
 #[cfg(test)]
-#[cfg(test)]
 mod stores;
 #[cfg(test)]
 mod tokens;

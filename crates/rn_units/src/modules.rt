@@ -90,11 +90,7 @@ fn has_borrowed(module: &Module, text: &str) -> Option<(bool, bool)> {
 }
 
 /// Whether the literal of the only include of a source has this text, and whether it is a slice of it.
-fn is_borrowed(
-    rt: &(impl Abort + AllocGlobal),
-    source: &str,
-    text: &str,
-) -> Option<(bool, bool)> {
+fn is_borrowed(rt: &(impl Abort + AllocGlobal), source: &str, text: &str) -> Option<(bool, bool)> {
     let tokens = tokens_of(rt, source);
     has_borrowed(&module_of(rt, tokens.as_slice()), text)
 }
@@ -110,6 +106,9 @@ fn literals_as_written_are_borrowed(rt: HostRuntime) {
         ("include \"l\\x{69}b\"", "lib", false),
         ("include '''a\r'''", "a\n", false),
     ] {
-        assert!(rt; is_borrowed(&rt, source, text) == Some((true, wanted)), "{source}");
+        assert!(rt;
+            is_borrowed(&rt, source, text) == Some((true, wanted)),
+            "{source}"
+        );
     }
 }
