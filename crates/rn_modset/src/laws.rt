@@ -1,10 +1,10 @@
 //! Laws over the definitions that the contracts cite. Each function does nothing: what it ensures is the law.
-ghost use Rattle.std.specs.Prelude.{◌≡◌, ◌≢◌, ◌↔◌, ◌⊎◌, ◌||◌, ◌++◌, Bool, true, List, ℕ};
+ghost use Rattle.std.specs.Prelude.{◌≡◌, ◌≢◌, ◌↔◌, ◌⊎◌, ◌||◌, ◌++◌, ◌∷◌, [], Bool, true, List, ℕ};
 ghost use Rattle.std.specs.List.{Contains};
 ghost use Rattle.rn_modset.specs.declared.faults.BundleFault.{BundleFault};
 ghost use Rattle.rn_modset.specs.declared.faults.BundleFault.TheVariants.{Memory};
 ghost use Rattle.rn_modset.specs.Contributions.{Member};
-ghost use Rattle.rn_modset.specs.Sets.{IsSet, Rises, has, with_member, union};
+ghost use Rattle.rn_modset.specs.Sets.{IsSet, IsUnion, Rises, has, with_member, union};
 ghost use Rattle.rn_modset.specs.BundleGrammar.{IsBundle};
 ghost use Rattle.rn_modset.specs.Bundles.{bundle};
 ghost use Rattle.rn_modset.specs.BundleFaults.{IsFront, IsFaultBehind, HasBundleFault};
@@ -21,6 +21,16 @@ pub fn unions_hold_the_members_of_both()
     ensures tests { (s t : List Member) (q : Member) → has (union s t) q ≡ (has s q || has t q) }
     ensures one_rises { (s : List Member) (m : Member) → Rises s → Rises (with_member s m) }
     ensures both_rise { (s t : List Member) → Rises s → Rises (union s t) }
+{}
+
+/// What is held alone makes a union: of two lists there is one that rises and holds what one of both holds. It is the
+/// union, and with one contribution the set with it.
+pub fn members_alone_make_a_union()
+    ensures union { (s t : List Member) → Rises s → IsUnion s t (union s t) }
+    ensures with_one { (s : List Member) (m : Member) → Rises s
+        → IsUnion s (m ∷ []) (with_member s m) }
+    ensures one { (s t first second : List Member) → IsUnion s t first → IsUnion s t second
+        → first ≡ second }
 {}
 
 /// The union of sets is commutative, associative and idempotent, and the empty set changes nothing.

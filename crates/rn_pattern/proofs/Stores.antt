@@ -1,7 +1,6 @@
 -- Stores of nodes, and the trees that their ids stand for.
 pub mod NodeTrees
 pub mod Gathering
-pub mod Opening
 pub mod Copied
 pub mod Hashing
 pub mod Interning

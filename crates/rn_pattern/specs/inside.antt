@@ -4,6 +4,7 @@ pub mod Stored
 pub mod Shown
 pub mod PartViews
 pub mod Table
+pub mod Compared
 pub mod Lists
 pub mod Reduced
 pub mod NameParts

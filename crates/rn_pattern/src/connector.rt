@@ -5,11 +5,8 @@ ghost use Rattle.rn_pattern.specs.inside.Stored.{NamesBelow};
 ghost use Rattle.rn_pattern.specs.Store.{node_view};
 ghost use Rattle.rn_pattern.specs.Tree.{Tree, trees_of};
 ghost use Rattle.rn_pattern.specs.declared.node.NodeId.{NodeId};
-ghost use Rattle.rn_pattern.specs.View.{pattern_view, shared_view, shared_trees};
 
 use crate::node::{Node, NodeId};
-use crate::tree::Pattern;
-use std::rc::Rc;
 
 /// What connects the members of a list (4.12).
 #[derive(Clone, Copy)]
@@ -73,54 +70,6 @@ impl Connector {
             Connector::Choice => Node::Choice(members),
             Connector::Group => Node::Group(members),
             Connector::Interleave => Node::Interleave(members),
-        }
-    }
-
-    /// The members that stand for the pattern in a list of this kind, if it doesn't stand for itself: those of a list
-    /// of the same kind; none of the pattern that such a list without members is (4.20, 4.21).
-    pub fn members_within(self, pattern: &Pattern) -> Option<&[Rc<Pattern>]>
-        ensures { MatchOption result
-            (members_by self (pattern_view pattern.now) ≡ pattern_view pattern.now ∷ [])
-            (λ s. members_by self (pattern_view pattern.now) ≡ map shared_view s.now) }
-    {
-        match self {
-            Connector::Choice => match pattern {
-                Pattern::NotAllowed => Some(&[]),
-                Pattern::Choice(members) => Some(members),
-                _ => None,
-            },
-            Connector::Group => match pattern {
-                Pattern::Empty => Some(&[]),
-                Pattern::Group(members) => Some(members),
-                _ => None,
-            },
-            Connector::Interleave => match pattern {
-                Pattern::Empty => Some(&[]),
-                Pattern::Interleave(members) => Some(members),
-                _ => None,
-            },
-        }
-    }
-
-    /// The pattern of a list without members: `notAllowed` for a choice, `empty` for a group and an interleave.
-    pub fn neutral_pattern(self) -> Pattern
-        ensures { pattern_view result ≡ neutral self }
-    {
-        match self {
-            Connector::Choice => Pattern::NotAllowed,
-            Connector::Group => Pattern::Empty,
-            Connector::Interleave => Pattern::Empty,
-        }
-    }
-
-    /// The pattern of a list of the members, which are taken as they are.
-    pub fn pattern(self, members: Vec<Rc<Pattern>>) -> Pattern
-        ensures { pattern_view result ≡ over self (shared_trees members.items) }
-    {
-        match self {
-            Connector::Choice => Pattern::Choice(members),
-            Connector::Group => Pattern::Group(members),
-            Connector::Interleave => Pattern::Interleave(members),
         }
     }
 }

@@ -98,7 +98,7 @@ fn boxed_named(alloc: Global, named: &Named) -> Result<Box<Named>, AllocError>
 }
 
 /// The pattern of a copy of the value.
-pub fn value_of(alloc: Global, value: &Value) -> Result<Pattern, AllocError>
+fn value_of(alloc: Global, value: &Value) -> Result<Pattern, AllocError>
     ensures { IfOk result (λ p. pattern_view p ≡ value_view value.now) }
 {
     let copy = Value {
@@ -110,7 +110,7 @@ pub fn value_of(alloc: Global, value: &Value) -> Result<Pattern, AllocError>
 }
 
 /// The pattern of a copy of the data, with the except as it is.
-pub fn data_over(
+fn data_over(
     alloc: Global,
     data: &Data,
     except: Option<Box<Pattern>>,

@@ -64,6 +64,7 @@ impl NodeStore for Interned {
     fn table(&self) -> NodeTable<'_> {
         NodeTable {
             nodes: self.nodes.as_slice(),
+            is_shared: true,
         }
     }
 

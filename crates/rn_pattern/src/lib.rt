@@ -6,8 +6,6 @@
 //! members of a choice or an interleave are put in one order. [`Plain`] keeps each pattern that it is asked for; in
 //! [`Interned`] equal patterns have equal ids.
 //!
-//! [`steps`] takes the same steps on patterns themselves, for a pattern that no store is to keep.
-//!
 //! [`laws`] has what is proved of canonical patterns; [`examples`] has documents that are valid and documents that are
 //! not. [`name_classes`] has the restrictions on name classes (4.16). [`graph`], [`ranks`] and [`loops`] walk graphs
 //! whose nodes are numbers: definitions and what they refer to, modules and what they include. The edges of a graph are
@@ -40,7 +38,6 @@ pub mod rows;
 mod search;
 pub mod seed;
 pub mod small_string;
-pub mod steps;
 mod store;
 pub mod tree;
 

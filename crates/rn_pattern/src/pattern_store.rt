@@ -16,7 +16,8 @@ use std::alloc::AllocError;
 /// A store of canonical patterns, named by ids. Each constructor takes ids of this store and answers the id of the
 /// canonical form of its node, which matches what the node matches, in every schema (RELAX NG 2001, 4.20, 4.21, 6.2).
 /// Earlier ids keep their patterns. The only error is want of memory; a refused call changes no id's pattern and
-/// leaves the number of ids.
+/// leaves the number of ids. No limit bounds how deep patterns nest. The constructors of [`Interned`](crate::Interned)
+/// nest no call for each nested pattern; those of [`Plain`](crate::Plain) do, for members before the last of a list.
 pub trait Patterns {
     type Id: Copy + Eq + Drop;
 

@@ -47,7 +47,10 @@ impl NodeStore for Plain {
     }
 
     fn table(&self) -> NodeTable<'_> {
-        NodeTable { nodes: &self.nodes }
+        NodeTable {
+            nodes: &self.nodes,
+            is_shared: false,
+        }
     }
 
     fn library(&mut self, library: &str) -> Result<RcStr, AllocError> {

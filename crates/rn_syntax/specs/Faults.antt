@@ -78,7 +78,7 @@ StopsAt xs at = (bad : Tokens) × Stops (terminals_of xs) bad × BeginAt xs bad 
 
 -- no bracket is too many, and the tree of the tokens has the fault
 abbrev pub IsFaultOfTree : List Token → SyntaxFault → Type 0
-IsFaultOfTree xs e = (deep 0 (terminals_of xs) ≡ None) × (m : Module) × (AreSpelled xs → HasTree (terminals_of xs) m) × HasModuleFault m e
+IsFaultOfTree xs e = (deep 0 (terminals_of xs) ≡ None) × (AreSpelled xs → (m : Module) × HasTree (terminals_of xs) m × HasModuleFault m e)
 
 -- this is the fault of the tokens, of which Deep comes first, and then Syntax
 abbrev pub IsFault : List Token → SyntaxFault → Type 0

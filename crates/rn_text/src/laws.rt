@@ -1,5 +1,5 @@
 // Laws of tokens and literals. Each function does nothing: what it ensures is the law.
-ghost use Rattle.std.specs.Prelude.{◌≡◌, ◌≢◌, ◌⊎◌, ◌++◌, ℕ, List, true};
+ghost use Rattle.std.specs.Prelude.{◌≡◌, ◌≢◌, ◌⊎◌, ◌↔◌, ◌++◌, ℕ, List, true};
 ghost use Rattle.std.specs.List.{AllByRecursion, list_all};
 ghost use Rattle.std.specs.Str.{chars, IsUtf8, IsValidUpTo};
 ghost use Rattle.rn_text.specs.Characters.{is_xml_char};
@@ -48,6 +48,11 @@ pub fn tokens_stand_in_order()
 pub fn tokens_are_spelled()
     ensures { (cs : List ℕ) (tokens : List Lexeme) → HasTokens cs tokens → AllByRecursion
         (λ t. IsSpelled t.kind (chars t.text)) tokens }
+{}
+
+/// What spells a kind is told by plain words of it: two names with a colon between them spell a prefixed one, and so on.
+pub fn kinds_are_spelled()
+    ensures { (k : Kind) (cs : List ℕ) → (spells (Part.Token k) cs ≡ true) ↔ IsSpelled k cs }
 {}
 
 /// What spells a token is that token, where the text ends behind it or goes on with white space, one

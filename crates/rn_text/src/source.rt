@@ -1,5 +1,5 @@
 // The tokens of a source.
-ghost use Rattle.std.specs.Prelude.{◌≡◌, map, MatchResult};
+ghost use Rattle.std.specs.Prelude.{◌≡◌, [], map, MatchResult};
 ghost use Rattle.std.specs.List.{list_all};
 ghost use Rattle.std.specs.Str.{chars, IsUtf8};
 ghost use Rattle.rn_text.specs.Characters.{is_xml_char};
@@ -100,10 +100,8 @@ pub fn tokens<'a>(alloc: Global, src: &'a [u8]) -> Result<Vec<Token<'a>>, TextFa
     Ok(found)
 }
 
-/// Puts the tokens of a source into `found`, in the place of what it held, as [`tokens`] answers them. So whoever reads
-/// one source after the other asks for their memory once. Where the source is refused, `found` holds some of its tokens
-/// at most.
-pub fn read_tokens<'a>(src: &'a [u8], found: &mut Vec<Token<'a>>) -> Result<(), TextFault>
+/// Puts the tokens of a source into `found`, in the place of what it held, up to its fault.
+fn read_up_to_fault<'a>(src: &'a [u8], found: &mut Vec<Token<'a>>) -> Result<(), TextFault>
     ensures { MatchResult result (λ _. IsUtf8 src.now
         × HasTokens (chars src.now) (map lexeme_of found.new.items)) (HasFault src.now) }
 {
@@ -139,4 +137,18 @@ pub fn read_tokens<'a>(src: &'a [u8], found: &mut Vec<Token<'a>>) -> Result<(), 
         rest = after;
     }
     Ok(())
+}
+
+/// Puts the tokens of a source into `found`, in the place of what it held, as [`tokens`] answers them. So whoever reads
+/// one source after the other asks for their memory once. Where the source is refused, `found` is empty.
+pub fn read_tokens<'a>(src: &'a [u8], found: &mut Vec<Token<'a>>) -> Result<(), TextFault>
+    ensures { MatchResult result (λ _. IsUtf8 src.now
+        × HasTokens (chars src.now) (map lexeme_of found.new.items))
+        (λ fault. HasFault src.now fault × (found.new.items ≡ [])) }
+{
+    let read = read_up_to_fault(src, found);
+    if read.is_err() {
+        found.clear();
+    }
+    read
 }

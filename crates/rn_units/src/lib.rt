@@ -33,8 +33,6 @@ mod sizes;
 #[cfg(test)]
 mod small_strings;
 #[cfg(test)]
-mod steps;
-#[cfg(test)]
 mod stores;
 #[cfg(test)]
 mod tokens;

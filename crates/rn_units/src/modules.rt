@@ -74,37 +74,41 @@ fn literals_of_includes_are_listed(rt: HostRuntime) {
     assert!(rt; found.as_slice() == ["a", "bc", "lib", "\\x"].as_slice());
 }
 
-/// Whether the literal of the only include of a module is a slice of its text.
-fn has_borrowed(module: &Module) -> Option<bool> {
+/// Whether the literal of the only include of a module has this text, and whether it is a slice of its source.
+fn has_borrowed(module: &Module, text: &str) -> Option<(bool, bool)> {
     let [item] = module.items.as_slice() else {
         return None;
     };
     let Item::Include(include) = item else {
         return None;
     };
+    let is_text = include.wanted.as_str() == text;
     match include.wanted {
-        CowStr::Borrowed(_) => Some(true),
-        CowStr::Owned(_) => Some(false),
+        CowStr::Borrowed(_) => Some((is_text, true)),
+        CowStr::Owned(_) => Some((is_text, false)),
     }
 }
 
-/// Whether the literal of the only include of a text is a slice of it.
-fn is_borrowed(rt: &(impl Abort + AllocGlobal), text: &str) -> Option<bool> {
-    let tokens = tokens_of(rt, text);
-    has_borrowed(&module_of(rt, tokens.as_slice()))
+/// Whether the literal of the only include of a source has this text, and whether it is a slice of it.
+fn is_borrowed(rt: &(impl Abort + AllocGlobal), source: &str, text: &str) -> Option<(bool, bool)> {
+    let tokens = tokens_of(rt, source);
+    has_borrowed(&module_of(rt, tokens.as_slice()), text)
 }
 
 #[test]
 fn literals_as_written_are_borrowed(rt: HostRuntime) {
-    for (text, wanted) in [
-        ("include \"lib\"", true),
-        ("include '''l\"'b\n'''", true),
-        ("include \"\\x41\"", true),
-        ("include \"\"", true),
-        ("include \"l\" ~ \"ib\"", false),
-        ("include \"l\\x{69}b\"", false),
-        ("include '''a\r'''", false),
+    for (source, text, wanted) in [
+        ("include \"lib\"", "lib", true),
+        ("include '''l\"'b\n'''", "l\"'b\n", true),
+        ("include \"\\x41\"", "\\x41", true),
+        ("include \"\"", "", true),
+        ("include \"l\" ~ \"ib\"", "lib", false),
+        ("include \"l\\x{69}b\"", "lib", false),
+        ("include '''a\r'''", "a\n", false),
     ] {
-        assert!(rt; is_borrowed(&rt, text) == Some(wanted), "{text}");
+        assert!(rt;
+            is_borrowed(&rt, source, text) == Some((true, wanted)),
+            "{source}"
+        );
     }
 }

@@ -1,14 +1,7 @@
 // Patterns in one line: names with their URIs in braces, lists in parentheses.
 use rn_pattern::{Data, NameClass, Pattern};
-use std::alloc::{AllocError, Global};
+use std::alloc::AllocError;
 use std::rc::Rc;
-
-/// The line of a pattern.
-pub fn pattern_line(alloc: Global, pattern: &Pattern) -> Result<String, AllocError> {
-    let mut out = String::new(alloc);
-    write_pattern(&mut out, pattern)?;
-    Ok(out)
-}
 
 /// Adds words to a line.
 pub fn write_words(out: &mut String, words: &[&str]) -> Result<(), AllocError> {

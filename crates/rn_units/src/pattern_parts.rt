@@ -1,4 +1,4 @@
-// What constructors of patterns and steps on patterns are given besides patterns, and the constructors by number.
+// What constructors of patterns are given besides patterns, and the constructors by number.
 ghost use Rattle.std.specs.Prelude.{All, IfOk, IsTrue};
 ghost use Rattle.rn_pattern.specs.Store.{KeepsTrees};
 
@@ -7,7 +7,7 @@ use rn_pattern::{Data, NameClass, Patterns, Value};
 use std::alloc::{AllocError, Global};
 use std::rc::RcStr;
 
-/// What constructors and steps are given besides patterns.
+/// What constructors are given besides patterns.
 #[derive(Drop)]
 pub struct Parts {
     /// A choice of names that isn't in order.

@@ -109,7 +109,7 @@ module _ (text : Text) where
   first_of_tokens xs u has (s.Deep at) h = first_deep u (map lexeme_of xs) has at h
   first_of_tokens xs u has (s.Syntax at) h = let stops = h.1 (tokens_are_spelled (chars text) xs has) in first_syntax u (map lexeme_of xs) has h.0 stops.0 stops.1
   first_of_tokens xs u has s.Memory h = tt
-  first_of_tokens xs u has fault h = first_of_tree u (map lexeme_of xs) has h.0 h.1 (h.2 (tokens_are_spelled (chars text) xs has)) _ _ h.3
+  first_of_tokens xs u has fault h = let m = h.1 (tokens_are_spelled (chars text) xs has) in first_of_tree u (map lexeme_of xs) has h.0 m.0 m.1 _ _ m.2
 
 -- a refusal of the kind of the first fault
 pub of_refusal : (name text : Text) (q : code.Refusal) (k : FaultKind) → fault_of q ≡ Some (k, name) → IsFirstFault text k → IsFaultOf name text q

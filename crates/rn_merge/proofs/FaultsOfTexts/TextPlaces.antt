@@ -58,8 +58,10 @@ module _ (xs ys : List Token) (spelled : AreSpelled xs) (same : map lexeme_of xs
   place_moved (t # i ∷ bad) at h = h
 
   tree_moved : (e : SyntaxFault) → IsFaultOfTree xs e → IsFaultOfTree ys e
-  tree_moved e (d, m, tree, fault) =
-      (subst (λ (ts : Tokens). deep 0 ts ≡ None) alike d, m, (λ _. subst (λ (ts : Tokens). HasTree ts m) alike (tree spelled)), fault)
+  tree_moved e (d, of) = (
+    subst (λ (ts : Tokens). deep 0 ts ≡ None) alike d,
+    λ _. let m = of spelled in (m.0, subst (λ (ts : Tokens). HasTree ts m.0) alike m.1, m.2),
+  )
 
   moved : (e : SyntaxFault) → IsFault xs e → IsFault ys e
   moved (s.Deep at) h = subst (λ (ts : Tokens). deep 0 ts ≡ Some at) alike h

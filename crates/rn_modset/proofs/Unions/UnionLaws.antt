@@ -3,11 +3,12 @@ use Rattle.std.proofs.Common.{◌≡◌, Bool, true, false, ◌||◌, List, [], 
 use Rattle.std.specs.List.{flat_map}
 use Rattle.std.specs.List.Sorted.{IsStrictlySortedBy}
 use Rattle.rn_modset.specs.Contributions.{Member}
-use Rattle.rn_modset.specs.Sets.{Rises, has, with_member, union}
+use Rattle.rn_modset.specs.Sets.{IsUnion, Rises, has, with_member, union}
 use Rattle.rn_modset.specs.Laws.{AreUnionLaws, AreCallLaws, Call, added, joined, after, brought}
 use Rattle.rn_modset.proofs.OrderedMembers.MemberOrder.{members_total, members_same}
 use Rattle.rn_modset.proofs.OrderedMembers.RisingLists.{one_list}
 use Rattle.rn_modset.proofs.Unions.UnionMembers.{has_union, rises_union}
+use Rattle.rn_modset.proofs.Unions.HeldMembers.{held, of_both}
 use Rattle.std.proofs.Math.Bool.{or_assoc}
 
 or_commutes : (a b : Bool) → (a || b) ≡ (b || a)
@@ -23,6 +24,22 @@ or_repeats false = refl
 -- lists that rise and hold the same members are one
 pub one_set : (s t : List Member) → Rises s → Rises t → ((q : Member) → has s q ≡ has t q) → s ≡ t
 one_set s t = one_list members_total members_same s t
+
+-- so a union is what rises and holds what one of both holds
+pub is_union : (s t : List Member) → Rises s → IsUnion s t (union s t)
+is_union s t h = record { rises = rises_union s t h; holds = λ q. of_both s t q }
+
+pub is_with_one : (s : List Member) (m : Member) → Rises s → IsUnion s (m ∷ []) (with_member s m)
+is_with_one s m h = is_union s (m ∷ []) h
+
+same_truth : (a b : Bool) → (a ≡ true → b ≡ true) → (b ≡ true → a ≡ true) → a ≡ b
+same_truth true b to from = sym (to refl)
+same_truth false true to from = from refl
+same_truth false false to from = refl
+
+pub one_union : (s t first second : List Member) → IsUnion s t first → IsUnion s t second → first ≡ second
+one_union s t first second h k = one_set first second h.rises k.rises
+    (λ q. same_truth (has first q) (has second q) (λ e. (held second q).1 ((k.holds q).1 ((h.holds q).0 ((held first q).0 e)))) (λ e. (held first q).1 ((h.holds q).1 ((k.holds q).0 ((held second q).0 e)))))
 
 rises_none : Rises []
 unfolding IsStrictlySortedBy

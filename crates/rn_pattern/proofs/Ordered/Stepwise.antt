@@ -1,6 +1,7 @@
 -- Two lists compared one by one, along what their entries stand for.
 use Rattle.std.proofs.Common.{◌≡◌, ◌<◌, ◌+◌, ℕ, List, [], ◌∷◌, map, length, drop, get_or, refl, sym, ap, ◌∙◌, arith, min, Ordering, Less, Equal, Greater, nat_cmp}
-use Rattle.std.proofs.lemmas.List.{drop_more, length-drop}
+use Rattle.std.proofs.lemmas.List.{drop_all, drop_more, length-drop}
+use Rattle.rn_pattern.proofs.Ordered.Orders.{then-Equal}
 use Rattle.std.specs.Cmp.{nat_cmp_is}
 use Rattle.std.specs.Ordering.{ordering_then}
 use Rattle.std.specs.Cmp.Lexicographic.{slice_cmp}
@@ -47,6 +48,13 @@ module _ {X Y : Type 0} (R : X → X → Ordering) (at : Y → X) (xs ys : List 
 
   pub rest_settled : (d e : Y) (r : Ordering) → k < length xs → k < length ys → r ≡ R (at (get_or xs k d)) (at (get_or ys k e)) → ¬ (r ≡ Equal) → rest_cmp ≡ r
   rest_settled d e r l g is h = rest_step d e l g ∙ then_settled (R (at (get_or xs k d)) (at (get_or ys k e))) _ (λ f. h (is ∙ f)) ∙ sym is
+
+  -- where both lists end behind it, this entry decides
+  pub rest_last : (d e : Y) → k + 1 ≡ length xs → k + 1 ≡ length ys → rest_cmp ≡ R (at (get_or xs k d)) (at (get_or ys k e))
+  rest_last d e l g =
+      rest_step d e (omega (arith, l)) (omega (arith, g))
+      ∙ (λ i. ordering_then (R (at (get_or xs k d)) (at (get_or ys k e))) (slice_cmp R (map at (drop_all (k + 1) xs (omega (arith, l)) i)) (map at (drop_all (k + 1) ys (omega (arith, g)) i))))
+      ∙ then-Equal (R (at (get_or xs k d)) (at (get_or ys k e)))
 
   pub rest_tied : (d e : Y) (r : Ordering) → k < length xs → k < length ys → r ≡ R (at (get_or xs k d)) (at (get_or ys k e)) → r ≡ Equal → rest_cmp ≡ slice_cmp R (map at (drop (k + 1) xs)) (map at (drop (k + 1) ys))
   rest_tied d e r l g is h = rest_step d e l g ∙ then_tied (R (at (get_or xs k d)) (at (get_or ys k e))) _ (sym is ∙ h)

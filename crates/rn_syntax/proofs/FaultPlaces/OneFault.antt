@@ -130,7 +130,7 @@ module _ (xs : List Token) (spelled : AreSpelled xs) where
   IsKind e (a_module m f) = (deep 0 ts ≡ None) × HasTree ts m × HasModuleFault m f × (e ≡ f)
 
   tree_kind : (e : SyntaxFault) → IsFaultOfTree xs e → (k : Kind) × IsKind e k
-  tree_kind e (d, m, tree, fault) = (a_module m e, (d, tree spelled, fault, refl))
+  tree_kind e (d, of) = let m = of spelled in (a_module m.0 e, (d, m.1, m.2, refl))
 
   kind_of : (e : SyntaxFault) → IsFault xs e → e ≢ Memory → (k : Kind) × IsKind e k
   kind_of (Deep at) x n = (too_deep at, (x, refl))

@@ -16,7 +16,7 @@ pub found_fault : (xs : List Token) (m : Module) (e : SyntaxFault) → deep 0 (t
 found_fault xs m (Deep at) d t h = let none : ◌≡◌ {A = Option ℕ} None (Some at) = h.place in cc
 found_fault xs m (Syntax at) d t h = let none : ◌≡◌ {A = Option ℕ} None (Some at) = h.place in cc
 found_fault xs m Memory d t h = absurd h
-found_fault xs m e d t h = (d, m, t, h)
+found_fault xs m e d t h = (d, λ s. (m, t s, h))
 
 -- a fault of the grammar is one of the tokens
 pub syntax_fault : (xs : List Token) (e : SyntaxFault) → deep 0 (terminals (map lexeme_of xs)) ≡ None → IsSyntax xs e → IsFault xs e

@@ -4,19 +4,19 @@ use Rattle.std.proofs.lemmas.Bool.Decides.{nat_tests}
 use Rattle.std.proofs.Common.{◌≡◌, ℕ, Bool, true, false, List, [], ◌∷◌, ◌++◌, length, refl, sym, ap, ◌∙◌, subst, arith, append_assoc, ⊎_elim, ne_eqb, eq-eqb, ◌+◌, append-nil, length-append, eqb-true}
 use Rattle.std.specs.Prelude.{◌==◌, ◌&&◌, not, codes}
 use Rattle.std.specs.List.{list_all, list_any}
-use Rattle.std.proofs.lemmas.Bool.{cases_Bool, and_parts, and_right, not-true}
+use Rattle.std.proofs.lemmas.Bool.{cases_Bool, and_parts, and_from, and_right, not-true}
 use Rattle.rn_text.specs.declared.parts.Part.{Part}
 use Rattle.rn_text.specs.declared.parts.Part.TheVariants.{Token}
 use Rattle.rn_text.specs.declared.parts.Kind.{Kind}
 use Rattle.rn_text.specs.declared.parts.Kind.TheVariants.{Name, Keyword, Quoted, Prefixed, AnyOf, Segment, Symbol}
 use Rattle.rn_text.specs.Characters.{is_name_start, is_name_char, is_ncname, is_keyword}
 use Rattle.rn_text.specs.Segments.{after_run, begins_with, is_x, is_delimiter, is_delimited, is_segment, opens_threefold, escapes_hold, escape_front}
-use Rattle.rn_text.specs.Parts.{IsFirstPart, spells, symbols, is_symbol, IsSpelled, is_prefixed, ends_token}
+use Rattle.rn_text.specs.Parts.{IsFirstPart, spells, symbols, is_symbol, IsSpelled, is_prefixed, is_quoted, ends_token}
 use Rattle.rn_text.specs.inside.PartEnds.{IsNoPrefix}
 use Rattle.rn_text.proofs.Words.CharacterRuns.{after_run_passes, after_run_stops, run_split}
 use Rattle.rn_text.proofs.Cutting.DelimitedFronts.{segment_first, delimiter_at, escapes_within}
 use Rattle.rn_text.proofs.Cutting.FirstParts.{letter, class_of, one_of, symbol_first, symbol_short, single_symbol, pair_symbol, keyword_is_name}
-use Rattle.rn_text.proofs.Cutting.NameTokens.{name_chars, run_ends, name_first, any_first, prefixed_first, quoted_first, colon_is_none, colon_of}
+use Rattle.rn_text.proofs.Cutting.NameTokens.{name_chars, run_ends, name_first, any_first, prefixed_first, quoted_first, colon_is_none, colon_of, spells_prefixed}
 use Rattle.rn_text.proofs.Words.EqualLists.{cons_first}
 use Rattle.rn_text.proofs.Words.TruthValues.{true_is_false}
 use Rattle.std.specs.Str.{bytes_eq}
@@ -170,6 +170,16 @@ spelled_is AnyOf s e =
     (parts.0, parts.2 ∙ ap (λ l. parts.0 ++ 58 ∷ l) star, parts.3)
 spelled_is Segment s e = e
 spelled_is Symbol s e = e
+
+-- and what says so of a kind spells it
+pub is_spelled : (k : Kind) (s : List ℕ) → IsSpelled k s → spells (Token k) s ≡ true
+is_spelled Name s (name, other) = and_from (is_ncname s) (not (is_keyword s)) name (ap not other)
+is_spelled Keyword s h = h
+is_spelled Quoted s (name, is, named) = ap is_quoted is ∙ named
+is_spelled Prefixed s (prefix, local, is, first, second) = ap (is_prefixed is_ncname) is ∙ spells_prefixed is_ncname prefix local first second
+is_spelled AnyOf s (prefix, is, first) = ap (is_prefixed (bytes_eq (codes "*"))) is ∙ spells_prefixed (bytes_eq (codes "*")) prefix (42 ∷ []) first refl
+is_spelled Segment s h = h
+is_spelled Symbol s h = h
 
 -- a token before a break
 before_break : (k : Kind) (s : List ℕ) (b : ℕ) (rest : List ℕ) → spells (Token k) s ≡ true → is_break b ≡ true → IsFirstPart (s ++ b ∷ rest) (Token k) s (b ∷ rest)
