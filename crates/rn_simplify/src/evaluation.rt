@@ -59,7 +59,7 @@ fn settle_definition(
     Ok(())
 }
 
-/// The kind of the canonical form of a body. A member that is in its list before isn't evaluated again.
+/// The kind of the canonical form of a body. A member that repeats an earlier one isn't evaluated again.
 fn evaluate_body(
     alloc: Global,
     settled: &SettledDefinitions<'_>,

@@ -5,9 +5,9 @@ ghost use Rattle.rn_simplify.specs.inside.FormKinds.{around, both, either};
 /// What kind of canonical form a pattern has.
 #[derive(Clone, Copy)]
 pub(crate) enum FormKind {
-    /// `notAllowed`, which stands for each reference.
+    /// `notAllowed`, which replaces each reference.
     NotAllowed,
-    /// `empty`, which stands for each reference.
+    /// `empty`, which replaces each reference.
     Empty,
     /// Any other pattern: references to it stay.
     Other,

@@ -37,7 +37,7 @@ pub(crate) fn canonical_body<P: Patterns>(
     }
 }
 
-/// The id of the canonical form of a choice of the members. One that stands among them before falls away.
+/// The id of the canonical form of a choice of the members. A member that repeats an earlier one falls away.
 fn choice_form<P: Patterns>(
     alloc: Global,
     store: &mut P,
@@ -95,8 +95,8 @@ fn member_ids<P: Patterns>(
     Ok(ids)
 }
 
-/// The id of the canonical form of the member at the index, by the ids of those before it: where it stands there, its
-/// id is taken.
+/// The id of the canonical form of the member at the index, by the ids of those before it: a member that repeats an
+/// earlier one takes its id.
 fn id_at<P: Patterns>(
     alloc: Global,
     store: &mut P,

@@ -79,7 +79,7 @@ fn write_in_braces(writer: &mut Writer, prefixes: &Prefixes, content: &Pattern)
     writer.close_bracket(" }");
 }
 
-/// Writes a pattern between `,`, `&` or `|`. Where nothing more is written it isn't looked at.
+/// Writes a pattern between `,`, `&` or `|`. Does nothing once the writer has stopped.
 #[cycle(pattern)]
 fn write_operand(writer: &mut Writer, prefixes: &Prefixes, pattern: &Pattern)
     ensures { Writes (operand (written_tree (prefixes_view prefixes.now)

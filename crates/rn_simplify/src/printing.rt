@@ -67,7 +67,7 @@ fn write_definitions(writer: &mut Writer, prefixes: &Prefixes, defs: &[(String, 
     }
 }
 
-/// Writes the line of a definition. Where nothing more is written its body isn't looked at.
+/// Writes the line of a definition. Does nothing once the writer has stopped.
 #[inline(always)]
 fn write_definition(writer: &mut Writer, prefixes: &Prefixes, name: &str, body: &Pattern)
     ensures { Writes (definition_line (prefixes_view prefixes.now) (identifier (chars name.now))

@@ -1,4 +1,4 @@
-// Members of a list to which components are joined that stand in it before (RELAX NG 2001, 4.17).
+// Members of a joined list that repeat an earlier one (RELAX NG 2001, 4.17).
 ghost use Rattle.std.specs.Prelude.{◌≡◌, ◌≤◌, ◌<◌, IfOk, IfSome, List, Some, map, slice_get, slice_index_or};
 ghost use Rattle.rn_assemble.specs.Firsts.{AreFirsts};
 ghost use Rattle.rn_pattern.specs.Tree.{Tree};
@@ -23,7 +23,7 @@ pub(crate) fn first_of(firsts: &[u32], index: usize) -> usize
     }
 }
 
-/// The members, in their order, without each that stands among them before.
+/// The members, in their order, without those that repeat an earlier one.
 pub(crate) fn distinct_members(
     alloc: Global,
     members: &[Rc<Pattern>],
@@ -42,7 +42,7 @@ pub(crate) fn distinct_members(
     Ok(found)
 }
 
-/// The body without the members that stand in its list before. `None` where it has no first places, or is no list to
+/// The body without the members that repeat an earlier one. `None` where `firsts` is empty, or the body is no list to
 /// which components are joined.
 pub(crate) fn without_repeats(
     alloc: Global,

@@ -1,7 +1,6 @@
 -- A list of which those elements are retained that have a mark.
 use Rattle.std.proofs.Common.{◌≡◌, Bool, true, false, cond, List, [], ◌∷◌, length, drop, refl, ap, ◌∙◌, arith}
-use Rattle.std.specs.List.{items_where_true, list_all}
-use Rattle.std.proofs.lemmas.Bool.{false≢true}
+use Rattle.std.specs.List.{items_where_true}
 use Rattle.std.specs.List.Retain.{ReturnsInTurn, IsFiltered}
 use Rattle.rn_pattern.specs.Graph.{is_marked}
 use Rattle.rn_simplify.specs.inside.MarkedElements.{marked_elements}

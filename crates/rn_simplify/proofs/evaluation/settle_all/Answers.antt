@@ -29,7 +29,7 @@ pub loop-index-init : goal.loop-index-init
 loop-index-init c =
     let G = grammar_view c.args.grammar.now in
     record {
-      definitions = ap definitions_view c.in_ok-settled.ensures ∙ c.defs.ensures;
+      definitions = ap definitions_view c.in_ok-settled.ensures.definitions ∙ c.defs.ensures;
       settled = settled_none G.definitions c.settling_order-order.result.now _;
     }
 

@@ -5,8 +5,6 @@ use Rattle.std.proofs.lemmas.List.{take_all}
 use Rattle.std.proofs.lemmas.List.Elements.{Contains-get_or}
 use Rattle.rn_assemble.specs.Firsts.{AreFirsts, joined_members}
 use Rattle.rn_assemble.specs.GrammarView.{definitions_view, grammar_view}
-use Rattle.rn_pattern.specs.Tree.{Tree}
-use Rattle.rn_text.specs.Texts.{Text}
 use Rattle.rn_pattern.specs.View.{pattern_view}
 use Rattle.rn_simplify.specs.inside.FormKinds.{becomes, settled_form}
 use Rattle.rn_simplify.proofs.Simplified.StoreIds.{keeps_then}
@@ -35,7 +33,7 @@ pub loop-index-init : goal.loop-index-init
 loop-index-init g c = record {
   kept = λ i h. (h, refl);
   named = c.in_ok-forms.ensures.named;
-  made = none_formed _ _ c.settling_order-order.result.now _;
+  made = none_formed (settled_form c.args.settled.now) (definitions_view c.args.settled.now.definitions.now.entries) c.settling_order-order.result.now (definitions_view c.in_ok-forms.forms.items);
 }
 
 pub loop-index-preserved : goal.loop-index-preserved
