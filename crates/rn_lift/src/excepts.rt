@@ -9,11 +9,14 @@ use crate::scope_definitions::{Definition, Definitions, ScopedName};
 use rn_outline::{Outline, OutlineMethod, Part, PartKind};
 use rn_plan::{LiftFault, LiftFaultKind, Plan, Unit, Units};
 use std::alloc::{AllocError, Global};
-use std::collections::BTreeSet;
+use std::collections::{BTreeMap, BTreeSet};
 
 /// How many bytes all texts in excepts may have together: as many as a printed text and a module's text may have,
 /// `MAX_TEXT` of rn_modset, on which this crate does not stand.
 pub const MAX_EXCEPTS: usize = 4_194_304;
+
+/// In how many steps a text in an except is written at most: each byte of it takes two or fewer.
+const MAX_STEPS: usize = MAX_EXCEPTS * 2;
 
 /// What stands in the place of the references in excepts of a place, and the declarations that it needs.
 #[derive(Drop)]
@@ -51,8 +54,17 @@ impl Spliced {
 pub(crate) struct Excepts {
     definitions: Definitions,
     bodies: BodyChunks,
+    /// Of each name whose definition is nothing but a reference, the last one of the references that lead on from it.
+    lasts: BTreeMap<ScopedName, Reference>,
     /// How many bytes are left of the limit.
     left: usize,
+}
+
+/// A part that stands for something else, in the file of a place.
+#[derive(Clone, Copy)]
+struct Reference {
+    place: usize,
+    part: usize,
 }
 
 /// What is still to be written, last first.
@@ -95,6 +107,7 @@ impl Excepts {
         Ok(Excepts {
             definitions: Definitions::of(alloc, units, plan)?,
             bodies: BodyChunks::new(alloc),
+            lasts: BTreeMap::new(alloc),
             left: MAX_EXCEPTS,
         })
     }
@@ -122,14 +135,17 @@ impl Excepts {
             if let Some(part) = units.part(unit, *number) {
                 if part.in_except {
                     let trail = new_trail(alloc, unit.file, part.at.from);
+                    let reference = Reference {
+                        place,
+                        part: *number,
+                    };
                     let text = self.followed_text(
                         alloc,
                         units,
                         plan,
                         &mut prefixes,
                         trail,
-                        place,
-                        *number,
+                        reference,
                     )?;
                     texts.push((*number, text))?;
                 }
@@ -141,7 +157,7 @@ impl Excepts {
         })
     }
 
-    /// What a part in an except stands for.
+    /// What a part in an except stands for, within brackets.
     fn followed_text(
         &mut self,
         alloc: Global,
@@ -149,11 +165,10 @@ impl Excepts {
         plan: &Plan,
         prefixes: &mut AddedPrefixes,
         mut trail: Trail,
-        place: usize,
-        part: usize,
+        reference: Reference,
     ) -> Result<String, LiftFault> {
-        self.open(alloc, units, plan, &mut trail, place, part)?;
-        for _ in 0..MAX_EXCEPTS {
+        self.open_bracketed(alloc, units, plan, &mut trail, reference)?;
+        for _ in 0..MAX_STEPS {
             let Some(next) = trail.rest.pop() else {
                 self.left = self.left.saturating_sub(trail.text.len());
                 return Ok(trail.text);
@@ -215,40 +230,124 @@ impl Excepts {
                 trail.text.push(':')?;
                 Ok(trail.text.push_str(local.as_str())?)
             }
-            Chunk::Link(part) => {
-                let part = *part;
-                self.open(alloc, units, plan, trail, place, part)
+            Chunk::Link { part, is_excepted } => {
+                let reference = Reference { place, part: *part };
+                if *is_excepted {
+                    self.open_bracketed(alloc, units, plan, trail, reference)
+                } else {
+                    self.open(alloc, units, plan, trail, reference)
+                }
             }
         }
     }
 
-    /// Begins what a part at a place stands for.
+    /// Begins what a reference stands for, within brackets. So a choice stands for one pattern.
+    fn open_bracketed(
+        &mut self,
+        alloc: Global,
+        units: &Units<'_>,
+        plan: &Plan,
+        trail: &mut Trail,
+        reference: Reference,
+    ) -> Result<(), LiftFault> {
+        trail.text.push('(')?;
+        trail.rest.push(ToWrite::Text(")"))?;
+        self.open(alloc, units, plan, trail, reference)
+    }
+
+    /// Begins what a reference stands for: a choice, or a member of the one around it.
     fn open(
         &mut self,
         alloc: Global,
         units: &Units<'_>,
         plan: &Plan,
         trail: &mut Trail,
-        place: usize,
-        part: usize,
+        reference: Reference,
     ) -> Result<(), LiftFault> {
-        let Some(key) = key_of(alloc, units, plan, place, part)? else {
+        let key = self.last_name(alloc, units, plan, trail, reference)?;
+        if trail.open.contains(&key) {
             return Err(trail.fault(LiftFaultKind::ExceptReference));
-        };
+        }
         let standing = self
             .definitions
             .standing_definitions(alloc, units, plan, &key)?;
-        if standing.is_empty() {
-            return Err(undefined(units, plan, place, part));
-        }
-        if trail.open.contains(&key) || !are_data(units, plan, standing) {
-            return Err(trail.fault(LiftFaultKind::ExceptReference));
-        }
-        trail.text.push('(')?;
         trail.open.insert(key.copy(alloc)?)?;
         trail.rest.push(ToWrite::Leave(key))?;
-        trail.rest.push(ToWrite::Text(")"))?;
         push_bodies(alloc, units, plan, &mut self.bodies, trail, standing)
+    }
+
+    /// The name that a reference comes to. Definitions that are nothing but a reference are passed, each of them once in
+    /// all; those of the name itself aren't.
+    fn last_name(
+        &mut self,
+        alloc: Global,
+        units: &Units<'_>,
+        plan: &Plan,
+        trail: &Trail,
+        reference: Reference,
+    ) -> Result<ScopedName, LiftFault> {
+        let mut passed = BTreeSet::new(alloc);
+        let mut last = reference;
+        for _ in 0..usize::MAX {
+            let name = name_meant(alloc, units, plan, trail, last)?;
+            if let Some(known) = self.lasts.get(&name).copied() {
+                passed.insert(name)?;
+                last = known;
+                continue;
+            }
+            let Some(next) = self.next_reference(alloc, units, plan, trail, last, &name)? else {
+                self.keep_last(passed, last)?;
+                return Ok(name);
+            };
+            if !passed.insert(name)? {
+                break;
+            }
+            last = next;
+        }
+        Err(trail.fault(LiftFaultKind::ExceptReference))
+    }
+
+    /// The reference that is all of the definition of a name, to which this one leads; `None` where there is more.
+    fn next_reference(
+        &mut self,
+        alloc: Global,
+        units: &Units<'_>,
+        plan: &Plan,
+        trail: &Trail,
+        reference: Reference,
+        name: &ScopedName,
+    ) -> Result<Option<Reference>, LiftFault> {
+        let standing = self
+            .definitions
+            .standing_definitions(alloc, units, plan, name)?;
+        if standing.is_empty() {
+            return Err(undefined(units, plan, reference));
+        }
+        if !are_data(units, plan, standing) {
+            return Err(trail.fault(LiftFaultKind::ExceptReference));
+        }
+        let [Definition { place, part, .. }] = standing else {
+            return Ok(None);
+        };
+        let file = file_of(units, plan, *place);
+        let body = self.bodies.number(alloc, units, file, *part)?;
+        let lone = self.bodies.lone_part(body);
+        Ok(lone.map(|part| Reference {
+            place: *place,
+            part,
+        }))
+    }
+
+    /// Keeps what these names come to.
+    fn keep_last(
+        &mut self,
+        names: BTreeSet<ScopedName>,
+        last: Reference,
+    ) -> Result<(), AllocError> {
+        for name in names {
+            self.lasts.insert(name, last)?;
+        }
+        Ok(())
     }
 }
 
@@ -315,28 +414,42 @@ fn file_of(units: &Units<'_>, plan: &Plan, place: usize) -> usize {
     }
 }
 
-fn part_at<'a>(units: &Units<'a>, plan: &Plan, place: usize, part: usize) -> Option<&'a Part> {
-    units.files.get(file_of(units, plan, place))?.part(part)
+fn part_at<'a>(units: &Units<'a>, plan: &Plan, at: Reference) -> Option<&'a Part> {
+    units.files.get(file_of(units, plan, at.place))?.part(at.part)
 }
 
-/// The fault of a part at a place, whose name nothing defines.
-fn undefined(units: &Units<'_>, plan: &Plan, place: usize, part: usize) -> LiftFault {
+/// The fault of a reference whose name nothing defines.
+fn undefined(units: &Units<'_>, plan: &Plan, reference: Reference) -> LiftFault {
     LiftFault {
-        file: file_of(units, plan, place),
-        at: part_at(units, plan, place, part).map_or(0, |part| part.at.from),
+        file: file_of(units, plan, reference.place),
+        at: part_at(units, plan, reference).map_or(0, |part| part.at.from),
         kind: LiftFaultKind::Undefined,
     }
 }
 
-/// What a part at a place stands for.
+/// The name that a reference means.
+fn name_meant(
+    alloc: Global,
+    units: &Units<'_>,
+    plan: &Plan,
+    trail: &Trail,
+    reference: Reference,
+) -> Result<ScopedName, LiftFault> {
+    match key_of(alloc, units, plan, reference)? {
+        Some(name) => Ok(name),
+        None => Err(trail.fault(LiftFaultKind::ExceptReference)),
+    }
+}
+
+/// The name that a reference means, if it means one.
 fn key_of(
     alloc: Global,
     units: &Units<'_>,
     plan: &Plan,
-    place: usize,
-    part: usize,
+    reference: Reference,
 ) -> Result<Option<ScopedName>, AllocError> {
-    let Some(found) = part_at(units, plan, place, part) else {
+    let Reference { place, part } = reference;
+    let Some(found) = part_at(units, plan, reference) else {
         return Ok(None);
     };
     let Some(scope) = plan.scope_meant(place, part, &found.kind) else {
@@ -349,7 +462,11 @@ fn key_of(
 /// Whether an except may hold the combination of definitions.
 fn are_data(units: &Units<'_>, plan: &Plan, standing: &[Definition]) -> bool {
     standing.iter().all(|definition| {
-        match part_at(units, plan, definition.place, definition.part) {
+        let at = Reference {
+            place: definition.place,
+            part: definition.part,
+        };
+        match part_at(units, plan, at) {
             Some(part) => is_data(&part.kind, standing.len() > 1),
             None => false,
         }
