@@ -15,7 +15,10 @@ pub(crate) enum Chunk {
     /// Tokens, with spaces between.
     Text(String),
     /// A datatype with a prefix.
-    Datatype { prefix: String, local: String },
+    Datatype {
+        prefix: String,
+        local: String,
+    },
     /// A part, which stands for something else.
     Link {
         /// The number of the part in its file.

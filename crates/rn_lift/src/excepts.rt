@@ -5,8 +5,9 @@ ghost use Rattle.rn_lift.specs.inside.Excepted.{is_excepted};
 
 use crate::added_prefixes::AddedPrefixes;
 use crate::body_chunks::{BodyChunks, Chunk};
+use crate::except_references::{Reference, are_data, file_of, key_of, undefined};
 use crate::scope_definitions::{Definition, Definitions, ScopedName};
-use rn_outline::{Outline, OutlineMethod, Part, PartKind};
+use rn_outline::Outline;
 use rn_plan::{LiftFault, LiftFaultKind, Plan, Unit, Units};
 use std::alloc::{AllocError, Global};
 use std::collections::{BTreeMap, BTreeSet};
@@ -58,13 +59,6 @@ pub(crate) struct Excepts {
     lasts: BTreeMap<ScopedName, Reference>,
     /// How many bytes are left of the limit.
     left: usize,
-}
-
-/// A part that stands for something else, in the file of a place.
-#[derive(Clone, Copy)]
-struct Reference {
-    place: usize,
-    part: usize,
 }
 
 /// What is still to be written, last first.
@@ -289,7 +283,9 @@ impl Excepts {
         let mut passed = BTreeSet::new(alloc);
         let mut last = reference;
         for _ in 0..usize::MAX {
-            let name = name_meant(alloc, units, plan, trail, last)?;
+            let Some(name) = key_of(alloc, units, plan, last)? else {
+                break;
+            };
             if let Some(known) = self.lasts.get(&name).copied() {
                 passed.insert(name)?;
                 last = known;
@@ -402,89 +398,5 @@ fn new_trail(alloc: Global, file: usize, at: usize) -> Trail {
         text: String::new(alloc),
         rest: Vec::new(alloc),
         open: BTreeSet::new(alloc),
-    }
-}
-
-/// The file of a place.
-fn file_of(units: &Units<'_>, plan: &Plan, place: usize) -> usize {
-    let unit = plan.places.get(place).map(|place| place.unit);
-    match unit.and_then(|unit| units.units.get(unit)) {
-        Some(unit) => unit.file,
-        None => 0,
-    }
-}
-
-fn part_at<'a>(units: &Units<'a>, plan: &Plan, at: Reference) -> Option<&'a Part> {
-    units.files.get(file_of(units, plan, at.place))?.part(at.part)
-}
-
-/// The fault of a reference whose name nothing defines.
-fn undefined(units: &Units<'_>, plan: &Plan, reference: Reference) -> LiftFault {
-    LiftFault {
-        file: file_of(units, plan, reference.place),
-        at: part_at(units, plan, reference).map_or(0, |part| part.at.from),
-        kind: LiftFaultKind::Undefined,
-    }
-}
-
-/// The name that a reference means.
-fn name_meant(
-    alloc: Global,
-    units: &Units<'_>,
-    plan: &Plan,
-    trail: &Trail,
-    reference: Reference,
-) -> Result<ScopedName, LiftFault> {
-    match key_of(alloc, units, plan, reference)? {
-        Some(name) => Ok(name),
-        None => Err(trail.fault(LiftFaultKind::ExceptReference)),
-    }
-}
-
-/// The name that a reference means, if it means one.
-fn key_of(
-    alloc: Global,
-    units: &Units<'_>,
-    plan: &Plan,
-    reference: Reference,
-) -> Result<Option<ScopedName>, AllocError> {
-    let Reference { place, part } = reference;
-    let Some(found) = part_at(units, plan, reference) else {
-        return Ok(None);
-    };
-    let Some(scope) = plan.scope_meant(place, part, &found.kind) else {
-        return Ok(None);
-    };
-    let name = units.name_meant(file_of(units, plan, place), &found.kind);
-    Ok(Some(ScopedName::new(alloc, scope, name)?))
-}
-
-/// Whether an except may hold the combination of definitions.
-fn are_data(units: &Units<'_>, plan: &Plan, standing: &[Definition]) -> bool {
-    standing.iter().all(|definition| {
-        let at = Reference {
-            place: definition.place,
-            part: definition.part,
-        };
-        match part_at(units, plan, at) {
-            Some(part) => is_data(&part.kind, standing.len() > 1),
-            None => false,
-        }
-    })
-}
-
-fn is_data(kind: &PartKind, is_combined: bool) -> bool {
-    match kind {
-        PartKind::Define {
-            method,
-            only_data,
-            ..
-        }
-        | PartKind::Start {
-            method,
-            only_data,
-            ..
-        } => *only_data && !(is_combined && *method == OutlineMethod::Interleave),
-        _ => false,
     }
 }
