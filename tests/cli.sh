@@ -2,7 +2,7 @@
 # Runs the program rnc-merge as its users do: words, files, standard input, statuses and standard error.
 # Usage: tests/cli.sh [PROGRAM]   (without PROGRAM: crates/rnc_merge/out/rnc_merge)
 # With CHECKED=1 in the environment, PROGRAM is one that was compiled with checks: it is slow, so the longest text is shorter, and it
-# takes much memory, so the rows that leave it little are left out, which the last line says.
+# takes much memory and much of the stack, so the rows that leave it little are left out, which the last line says.
 set -u
 
 source "$(dirname "${BASH_SOURCE[0]}")/rows.sh" rnc_merge "$@"
@@ -247,5 +247,19 @@ row 'a second -- is a word' 3 '' 'read 1\n' print a.set -- --
 row 'two words -- behind --' 3 '' 'read 0\n' print -- -- --help
 row 'a name behind --' 0 'rncset 2\nwithdrawn -a 3\nend 1\n' '' withdraw -- -a 3
 
-[ "$left_out" -eq 0 ] || echo "left out: $left_out rows with too little memory, which a program compiled with checks can't have"
+# ---- the stack: what 256 open brackets take of it
+deep_texts
+for file in deep-*.rnc deepest-*.rnc; do
+    kib=512
+    case $file in deepest-*) kib=1024 ;; esac
+    made "$file.set" pack a 1 "$file"
+    if [ "$checked" -eq 0 ]; then
+        shallow "check $file" "$kib" check "$file"
+        shallow "print $file" "$kib" print "$file.set"
+    else
+        left_out=$((left_out + 2))
+    fi
+done
+
+[ "$left_out" -eq 0 ] || echo "left out: $left_out rows with too little memory or too small a stack, which a program compiled with checks can't have"
 tell

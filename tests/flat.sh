@@ -503,6 +503,76 @@ bad above_root 3 'folder/above.rnc:1:9: error: the file is not below the root fo
 printf 'include "http://x/a.rnc"\n' >folder/mapped.rnc
 row mapped_outside_root 0 'default namespace = ""\nstart = text\n' '' --root folder --map http://x/=. folder/mapped.rnc
 
+# ---- what messages pass on
+room shown
+n80=$(printf 'n%.0s' $(seq 80))
+printf 'start = %s\n' "$n80" >short.rnc
+bad name_of_80 1 "short.rnc:1:9: error: \`$n80\` is not defined\n    start = $n80\n            ^\n" short.rnc
+printf 'start = %sm\n' "$n80" >long.rnc
+bad name_of_81 1 "long.rnc:1:9: error: \`$n80..\` is not defined\n    start = ${n80}m\n            ^\n" long.rnc
+e80=$(printf '\303\251%.0s' $(seq 80))
+printf 'start = %s\303\251\n' "$e80" >accents.rnc
+bad name_of_81_of_two_bytes 1 "accents.rnc:1:9: error: \`$e80..\` is not defined\n    start = ${e80}\303\251\n            ^\n" accents.rnc
+printf 'start = text "%sm"\n' "$n80" >token.rnc
+bad token_of_83 1 "token.rnc:1:14: error: \`\"${n80%n}..\` can't stand here\n    start = text \"${n80}m\"\n                 ^\n" token.rnc
+printf 'start = text\n%sm = text\n%sm = empty\n%so |= text\n%so &= text\n' "$n80" "$n80" "$n80" "$n80" >methods.rnc
+bad names_defined 1 "methods.rnc:2:1: error: \`$n80..\` is defined here and in methods.rnc:3:1, neither with |= nor &=\n    ${n80}m = text\n    ^\nmethods.rnc:4:1: error: \`$n80..\` is combined by |= here, and by &= in methods.rnc:5:1\n    ${n80}o |= text\n    ^\n" methods.rnc
+printf 'start = a%s\na%s = b%s\nb%s = a%s\n' "$n80" "$n80" "$n80" "$n80" "$n80" >loop.rnc
+bad names_of_a_loop 1 "loop.rnc:2:1: error: \`a${n80%n}..\` refers to itself outside elements: by \`b${n80%n}..\` in loop.rnc:3:1\n    a$n80 = b$n80\n    ^\n" loop.rnc
+printf 'include "short.rnc" { start = text %sm = text }\n' "$n80" >override.rnc
+bad name_that_replaces_nothing 1 "override.rnc:1:36: error: \`$n80..\` replaces nothing: short.rnc, which is included in override.rnc:1:9, does not define it\n    include \"short.rnc\" { start = text ${n80}m = text }\n                                       ^\n" override.rnc
+# characters that turn the direction of a text, are not seen or part lines: Cf, Zl and Zp
+hidden='\302\255\342\200\213\342\200\215\342\200\216\342\200\252\342\200\253\342\200\254\342\200\255\342\200\256\342\201\246\342\201\247\342\201\250\342\201\251\342\200\250\342\200\251\357\273\277\363\240\200\201'
+printf "start = x # a${hidden}z\\n" >hidden.rnc
+bad hidden_in_a_line 1 'hidden.rnc:1:9: error: `x` is not defined\n    start = x # a?????????????????z\n            ^\n' hidden.rnc
+printf 'start = x #\t\303\251 \344\270\226 \360\237\230\200 \302\240 \342\200\224\n' >seen.rnc
+bad seen_in_a_line 1 'seen.rnc:1:9: error: `x` is not defined\n    start = x #\t\303\251 \344\270\226 \360\237\230\200 \302\240 \342\200\224\n            ^\n' seen.rnc
+turned=$(printf 'a\342\200\256b\342\201\246.rnc')
+printf 'start = x\n' >"$turned"
+bad hidden_in_a_file_name 1 'a?b?.rnc:1:9: error: `x` is not defined\n    start = x\n            ^\n' "$turned"
+bad hidden_in_a_missing_name 3 'rnc-flat: error: c?d.rnc: no such file\n' "$(printf 'c\342\200\250d.rnc')"
+# of the files of a long loop 20 are named
+for n in $(seq 25); do echo "include \"f$((n % 25 + 1)).rnc\"" >"f$n.rnc"; done
+files=
+for n in $(seq 20); do files="${files}f$n.rnc, "; done
+begins long_loop_of_files 1 "f25.rnc:1:9: error: the file refers to itself: ${files}5 more, f1.rnc" f1.rnc
+
+# ---- chains of references in excepts
+room excepts
+{
+    echo 'start = element a { xsd:string - x1 }'
+    for n in $(seq 2999); do echo "x$n = x$((n + 1))"; done
+    echo 'x3000 = "v"'
+} >chain.rnc
+printf 'start = element a { xsd:string - "v" }\n' >value.rnc
+"$program" chain.rnc 2>got.err | head -2 >chain.out
+"$program" value.rnc >value.out
+same except_through_3000_references chain.out value.out
+{
+    echo 'start = element a { xsd:string - x1 }'
+    for n in $(seq 299); do echo "x$n = x$((n + 1)) | \"v$n\""; done
+    echo 'x300 = "v300"'
+} >choices.rnc
+{
+    printf 'start = element a { xsd:string - ("v300"'
+    for n in $(seq 299); do printf ' | "v%s"' "$n"; done
+    echo ') }'
+} >flat.rnc
+"$program" choices.rnc 2>got.err | head -2 >choices.out
+"$program" flat.rnc >flat.out
+same except_through_300_choices choices.out flat.out
+printf 'start = element a { xsd:string - x }\nx = y\ny = z\nz = x\n' >round.rnc
+bad except_of_a_loop 1 "round.rnc:1:34: error: this stands for more than data, values and choices of them, which alone can be excepted\n    start = element a { xsd:string - x }\n                                     ^\n" round.rnc
+
+# ---- the stack: what 256 open brackets take of it
+room stack
+deep_texts
+# A program compiled with checks takes more.
+if [ "${CHECKED:-0}" -eq 0 ]; then
+    for file in deep-*.rnc; do shallow "$file" 512 "$file"; done
+    for file in deepest-*.rnc; do shallow "$file" 1024 "$file"; done
+fi
+
 # ---- colours
 room colours
 printf 'start = x\n' >a.rnc

@@ -55,6 +55,53 @@ same() {
     if cmp -s "$2" "$3"; then pass; else fail "$1: $2 and $3 differ"; fi
 }
 
+# nested NAME COUNT FRONT OPEN INNER CLOSE REST: writes NAME.rnc, with so many times OPEN before INNER and CLOSE after it.
+nested() {
+    {
+        printf '%b' "$3"
+        printf -- "$4%.0s" $(seq "$2")
+        printf '%b' "$5"
+        printf -- "$6%.0s" $(seq "$2")
+        printf '%b\n' "$7"
+    } >"$1.rnc"
+}
+
+# deep_texts: writes texts with 256 brackets open at once, of each kind: `deep-*.rnc`, which a stack of 512 KiB serves, and
+# `deepest-*.rnc`, in which three patterns are in each bracket, and which one of 1 MiB serves.
+deep_texts() {
+    local b='\nb = element b { empty }'
+    nested deep-elements 256 'start = ' 'element a { ' text ' }' ''
+    nested deep-attributes 255 'start = element a { ' 'attribute b { ' text ' }' ' }'
+    nested deep-choices 255 'start = ' '(element a { text } | ' empty ')' ''
+    nested deep-groups 255 'start = element a { ' '(b, ' b ')' " }$b"
+    nested deep-interleaves 255 'start = element a { ' '(b & ' b ')' " }$b"
+    nested deep-lists 255 'start = element a { ' 'list { ' '"a"' ' }' ' }'
+    nested deep-mixed 255 'start = element a { ' 'mixed { ' b ' }' " }$b"
+    nested deep-excepts 255 'start = element a { ' 'xsd:string - (' '"a"' ')' ' }'
+    nested deep-name-classes 256 'start = element ' '(a | ' b ')' ' { text }'
+    nested deep-annotations 255 'start = [ ' 'x:a [ ' '' '] ' '] element a { text }'
+    nested deep-divs 256 '' 'div { ' 'start = text' ' }' ''
+    nested deep-parentheses 256 'start = ' '(' text ')' ''
+    nested deepest-elements 255 'start = element r { ' 'element a { b, ' b ' }*' " }$b"
+    nested deepest-lists 255 'start = element r { ' 'list { "b", ' '"b"' ' }*' ' }'
+    nested deepest-mixed 255 'start = element r { ' 'mixed { b, ' b ' }*' " }$b"
+}
+
+# shallow NAME KIB WORD..: with a stack of so many KiB the program ends with status 0 and writes what it writes with more.
+shallow() {
+    local name=$1 kib=$2 whole got
+    shift 2
+    "$program" "$@" >"$work/wanted.out" 2>"$work/wanted.err"
+    whole=$?
+    (ulimit -s "$kib" && exec "$program" "$@") >"$work/got.out" 2>"$work/got.err"
+    got=$?
+    if [ "$whole" -eq 0 ] && [ "$got" -eq 0 ] && cmp -s "$work/got.out" "$work/wanted.out"; then
+        pass
+    else
+        fail "$name: status $whole, with a stack of $kib KiB $got: $(head -1 "$work/wanted.err")"
+    fi
+}
+
 # tell: the last line, and the status.
 tell() {
     echo "$passed passed, $failed failed"

@@ -15,9 +15,17 @@ pub(crate) enum Chunk {
     /// Tokens, with spaces between.
     Text(String),
     /// A datatype with a prefix.
-    Datatype { prefix: String, local: String },
-    /// The part of this number, which stands for something else.
-    Link(usize),
+    Datatype {
+        prefix: String,
+        local: String,
+    },
+    /// A part, which stands for something else.
+    Link {
+        /// The number of the part in its file.
+        part: usize,
+        /// Whether it is all that is excepted from data: it is right after a `-`.
+        is_excepted: bool,
+    },
 }
 
 #[derive(Drop)]
@@ -38,6 +46,14 @@ impl BodyChunks {
     /// A chunk of a body.
     pub(crate) fn chunk(&self, body: usize, chunk: usize) -> Option<&Chunk> {
         self.bodies.get(body)?.get(chunk)
+    }
+
+    /// The part that a body is, where it is nothing else.
+    pub(crate) fn lone_part(&self, body: usize) -> Option<usize> {
+        match self.bodies.get(body)?.as_slice() {
+            [Chunk::Link { part, .. }] => Some(*part),
+            _ => None,
+        }
     }
 
     /// The number of the body of a definition.
@@ -135,7 +151,11 @@ impl Cutter {
         let token = &tokens[at];
         let begin = self.from.saturating_add(token.start);
         if let Some(part) = self.part_at(parts, begin) {
-            self.chunks.push(Chunk::Link(self.next))?;
+            let is_excepted = self.is_after_minus();
+            self.chunks.push(Chunk::Link {
+                part: self.next,
+                is_excepted,
+            })?;
             self.next = self.next.saturating_add(1);
             return Ok(token_behind(tokens, at, part.at.to.saturating_sub(self.from)));
         }
@@ -156,6 +176,14 @@ impl Cutter {
             self.next = self.next.saturating_add(1);
         }
         None
+    }
+
+    /// Whether the last token is a `-`, after which one pattern alone may be.
+    fn is_after_minus(&self) -> bool {
+        match self.chunks.last() {
+            Some(Chunk::Text(text)) => text.as_str().ends_with('-'),
+            _ => false,
+        }
     }
 
     fn push(&mut self, alloc: Global, token: &Token<'_>) -> Result<(), AllocError> {

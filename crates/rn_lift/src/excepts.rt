@@ -5,15 +5,19 @@ ghost use Rattle.rn_lift.specs.inside.Excepted.{is_excepted};
 
 use crate::added_prefixes::AddedPrefixes;
 use crate::body_chunks::{BodyChunks, Chunk};
+use crate::except_references::{Reference, are_data, file_of, key_of, undefined};
 use crate::scope_definitions::{Definition, Definitions, ScopedName};
-use rn_outline::{Outline, OutlineMethod, Part, PartKind};
+use rn_outline::Outline;
 use rn_plan::{LiftFault, LiftFaultKind, Plan, Unit, Units};
 use std::alloc::{AllocError, Global};
-use std::collections::BTreeSet;
+use std::collections::{BTreeMap, BTreeSet};
 
 /// How many bytes all texts in excepts may have together: as many as a printed text and a module's text may have,
 /// `MAX_TEXT` of rn_modset, on which this crate does not stand.
 pub const MAX_EXCEPTS: usize = 4_194_304;
+
+/// In how many steps a text in an except is written at most: each byte of it takes two or fewer.
+const MAX_STEPS: usize = MAX_EXCEPTS * 2;
 
 /// What stands in the place of the references in excepts of a place, and the declarations that it needs.
 #[derive(Drop)]
@@ -51,6 +55,8 @@ impl Spliced {
 pub(crate) struct Excepts {
     definitions: Definitions,
     bodies: BodyChunks,
+    /// Of each name whose definition is nothing but a reference, the last one of the references that lead on from it.
+    lasts: BTreeMap<ScopedName, Reference>,
     /// How many bytes are left of the limit.
     left: usize,
 }
@@ -95,6 +101,7 @@ impl Excepts {
         Ok(Excepts {
             definitions: Definitions::of(alloc, units, plan)?,
             bodies: BodyChunks::new(alloc),
+            lasts: BTreeMap::new(alloc),
             left: MAX_EXCEPTS,
         })
     }
@@ -122,14 +129,17 @@ impl Excepts {
             if let Some(part) = units.part(unit, *number) {
                 if part.in_except {
                     let trail = new_trail(alloc, unit.file, part.at.from);
+                    let reference = Reference {
+                        place,
+                        part: *number,
+                    };
                     let text = self.followed_text(
                         alloc,
                         units,
                         plan,
                         &mut prefixes,
                         trail,
-                        place,
-                        *number,
+                        reference,
                     )?;
                     texts.push((*number, text))?;
                 }
@@ -141,7 +151,7 @@ impl Excepts {
         })
     }
 
-    /// What a part in an except stands for.
+    /// What a part in an except stands for, within brackets.
     fn followed_text(
         &mut self,
         alloc: Global,
@@ -149,11 +159,10 @@ impl Excepts {
         plan: &Plan,
         prefixes: &mut AddedPrefixes,
         mut trail: Trail,
-        place: usize,
-        part: usize,
+        reference: Reference,
     ) -> Result<String, LiftFault> {
-        self.open(alloc, units, plan, &mut trail, place, part)?;
-        for _ in 0..MAX_EXCEPTS {
+        self.open_bracketed(alloc, units, plan, &mut trail, reference)?;
+        for _ in 0..MAX_STEPS {
             let Some(next) = trail.rest.pop() else {
                 self.left = self.left.saturating_sub(trail.text.len());
                 return Ok(trail.text);
@@ -215,40 +224,126 @@ impl Excepts {
                 trail.text.push(':')?;
                 Ok(trail.text.push_str(local.as_str())?)
             }
-            Chunk::Link(part) => {
-                let part = *part;
-                self.open(alloc, units, plan, trail, place, part)
+            Chunk::Link { part, is_excepted } => {
+                let reference = Reference { place, part: *part };
+                if *is_excepted {
+                    self.open_bracketed(alloc, units, plan, trail, reference)
+                } else {
+                    self.open(alloc, units, plan, trail, reference)
+                }
             }
         }
     }
 
-    /// Begins what a part at a place stands for.
+    /// Begins what a reference stands for, within brackets. So a choice stands for one pattern.
+    fn open_bracketed(
+        &mut self,
+        alloc: Global,
+        units: &Units<'_>,
+        plan: &Plan,
+        trail: &mut Trail,
+        reference: Reference,
+    ) -> Result<(), LiftFault> {
+        trail.text.push('(')?;
+        trail.rest.push(ToWrite::Text(")"))?;
+        self.open(alloc, units, plan, trail, reference)
+    }
+
+    /// Begins what a reference stands for: a choice, or a member of the one around it.
     fn open(
         &mut self,
         alloc: Global,
         units: &Units<'_>,
         plan: &Plan,
         trail: &mut Trail,
-        place: usize,
-        part: usize,
+        reference: Reference,
     ) -> Result<(), LiftFault> {
-        let Some(key) = key_of(alloc, units, plan, place, part)? else {
+        let key = self.last_name(alloc, units, plan, trail, reference)?;
+        if trail.open.contains(&key) {
             return Err(trail.fault(LiftFaultKind::ExceptReference));
-        };
+        }
         let standing = self
             .definitions
             .standing_definitions(alloc, units, plan, &key)?;
-        if standing.is_empty() {
-            return Err(undefined(units, plan, place, part));
-        }
-        if trail.open.contains(&key) || !are_data(units, plan, standing) {
-            return Err(trail.fault(LiftFaultKind::ExceptReference));
-        }
-        trail.text.push('(')?;
         trail.open.insert(key.copy(alloc)?)?;
         trail.rest.push(ToWrite::Leave(key))?;
-        trail.rest.push(ToWrite::Text(")"))?;
         push_bodies(alloc, units, plan, &mut self.bodies, trail, standing)
+    }
+
+    /// The name that a reference comes to. Definitions that are nothing but a reference are passed, each of them once in
+    /// all; those of the name itself aren't.
+    fn last_name(
+        &mut self,
+        alloc: Global,
+        units: &Units<'_>,
+        plan: &Plan,
+        trail: &Trail,
+        reference: Reference,
+    ) -> Result<ScopedName, LiftFault> {
+        let mut passed = BTreeSet::new(alloc);
+        let mut last = reference;
+        for _ in 0..usize::MAX {
+            let Some(name) = key_of(alloc, units, plan, last)? else {
+                break;
+            };
+            if let Some(known) = self.lasts.get(&name).copied() {
+                passed.insert(name)?;
+                last = known;
+                continue;
+            }
+            let Some(next) = self.next_reference(alloc, units, plan, trail, last, &name)? else {
+                self.keep_last(passed, last)?;
+                return Ok(name);
+            };
+            if !passed.insert(name)? {
+                break;
+            }
+            last = next;
+        }
+        Err(trail.fault(LiftFaultKind::ExceptReference))
+    }
+
+    /// The reference that is all of the definition of a name, to which this one leads; `None` where there is more.
+    fn next_reference(
+        &mut self,
+        alloc: Global,
+        units: &Units<'_>,
+        plan: &Plan,
+        trail: &Trail,
+        reference: Reference,
+        name: &ScopedName,
+    ) -> Result<Option<Reference>, LiftFault> {
+        let standing = self
+            .definitions
+            .standing_definitions(alloc, units, plan, name)?;
+        if standing.is_empty() {
+            return Err(undefined(units, plan, reference));
+        }
+        if !are_data(units, plan, standing) {
+            return Err(trail.fault(LiftFaultKind::ExceptReference));
+        }
+        let [Definition { place, part, .. }] = standing else {
+            return Ok(None);
+        };
+        let file = file_of(units, plan, *place);
+        let body = self.bodies.number(alloc, units, file, *part)?;
+        let lone = self.bodies.lone_part(body);
+        Ok(lone.map(|part| Reference {
+            place: *place,
+            part,
+        }))
+    }
+
+    /// Keeps what these names come to.
+    fn keep_last(
+        &mut self,
+        names: BTreeSet<ScopedName>,
+        last: Reference,
+    ) -> Result<(), AllocError> {
+        for name in names {
+            self.lasts.insert(name, last)?;
+        }
+        Ok(())
     }
 }
 
@@ -303,71 +398,5 @@ fn new_trail(alloc: Global, file: usize, at: usize) -> Trail {
         text: String::new(alloc),
         rest: Vec::new(alloc),
         open: BTreeSet::new(alloc),
-    }
-}
-
-/// The file of a place.
-fn file_of(units: &Units<'_>, plan: &Plan, place: usize) -> usize {
-    let unit = plan.places.get(place).map(|place| place.unit);
-    match unit.and_then(|unit| units.units.get(unit)) {
-        Some(unit) => unit.file,
-        None => 0,
-    }
-}
-
-fn part_at<'a>(units: &Units<'a>, plan: &Plan, place: usize, part: usize) -> Option<&'a Part> {
-    units.files.get(file_of(units, plan, place))?.part(part)
-}
-
-/// The fault of a part at a place, whose name nothing defines.
-fn undefined(units: &Units<'_>, plan: &Plan, place: usize, part: usize) -> LiftFault {
-    LiftFault {
-        file: file_of(units, plan, place),
-        at: part_at(units, plan, place, part).map_or(0, |part| part.at.from),
-        kind: LiftFaultKind::Undefined,
-    }
-}
-
-/// What a part at a place stands for.
-fn key_of(
-    alloc: Global,
-    units: &Units<'_>,
-    plan: &Plan,
-    place: usize,
-    part: usize,
-) -> Result<Option<ScopedName>, AllocError> {
-    let Some(found) = part_at(units, plan, place, part) else {
-        return Ok(None);
-    };
-    let Some(scope) = plan.scope_meant(place, part, &found.kind) else {
-        return Ok(None);
-    };
-    let name = units.name_meant(file_of(units, plan, place), &found.kind);
-    Ok(Some(ScopedName::new(alloc, scope, name)?))
-}
-
-/// Whether an except may hold the combination of definitions.
-fn are_data(units: &Units<'_>, plan: &Plan, standing: &[Definition]) -> bool {
-    standing.iter().all(|definition| {
-        match part_at(units, plan, definition.place, definition.part) {
-            Some(part) => is_data(&part.kind, standing.len() > 1),
-            None => false,
-        }
-    })
-}
-
-fn is_data(kind: &PartKind, is_combined: bool) -> bool {
-    match kind {
-        PartKind::Define {
-            method,
-            only_data,
-            ..
-        }
-        | PartKind::Start {
-            method,
-            only_data,
-            ..
-        } => *only_data && !(is_combined && *method == OutlineMethod::Interleave),
-        _ => false,
     }
 }

@@ -6,6 +6,7 @@ mod added_prefixes;
 mod body_chunks;
 mod draft;
 mod edits;
+mod except_references;
 mod excepts;
 pub mod lifted;
 pub mod lifting;

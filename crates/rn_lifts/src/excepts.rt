@@ -16,11 +16,25 @@ include 'b' { y |= 'b' } y |= 'c' x = y
 y |= 'a'
 =>
 @a
-start = xsd:string - ((( 'b' |  'c')) | 'd')
+start = xsd:string - (( 'b' |  'c') | 'd')
 include "b" { y |= 'b' } y |= 'c' x = y
 
 @b
 y |= 'a'
+
+====
+@a
+start = xsd:string - x x = y | 'a' y = z z = 'b' | xsd:token - w w = 'c' | 'd'
+=>
+@a
+start = xsd:string - ( 'b' | xsd:token -( 'c' | 'd') | 'a') x = y | 'a' y = z z = 'b' | xsd:token - ( 'c' | 'd') w = 'c' | 'd'
+
+====
+@a
+start = xsd:string - x | xsd:token - y x = y y = z z = w w = 'a'
+=>
+@a
+start = xsd:string - ( 'a') | xsd:token - ( 'a') x = y y = z z = w w = 'a'
 
 ====
 @a
@@ -54,6 +68,26 @@ LiftFault { file: 0, at: 21, kind: ExceptReference }
 start = xsd:string - x x = 'a' | x
 =>
 LiftFault { file: 0, at: 21, kind: ExceptReference }
+====
+@a
+start = xsd:string - x x = y y = x
+=>
+LiftFault { file: 0, at: 21, kind: ExceptReference }
+====
+@a
+start = xsd:string - x x = y y = text
+=>
+LiftFault { file: 0, at: 21, kind: ExceptReference }
+====
+@a
+start = xsd:string - x x = y | 'a' y = x
+=>
+LiftFault { file: 0, at: 21, kind: ExceptReference }
+====
+@a
+start = xsd:string - x x = y y = z
+=>
+LiftFault { file: 0, at: 33, kind: Undefined }
 ====
 @a
 start = xsd:string - x

@@ -1,16 +1,28 @@
 -- What is printed before a sentence, and characters as they are printed.
-use Rattle.std.specs.Prelude.{ℕ, ◌==◌, ◌&&◌, not, List, [], ◌∷◌, ◌++◌, codes, if◌then◌else◌}
+use Rattle.std.specs.Prelude.{ℕ, ◌==◌, ◌&&◌, not, Bool, true, false, List, [], ◌∷◌, ◌++◌, codes, if◌then◌else◌}
 use Rattle.std.specs.List.{flat_map}
-use Rattle.std.specs.Char.{encode_utf8, is_control}
+use Rattle.std.specs.Char.{encode_utf8}
 use Rattle.std.specs.Str.{chars}
+use Rattle.ucd_category.specs.declared.GeneralCategory.{GeneralCategory}
+use Rattle.ucd_category.specs.declared.GeneralCategory.TheVariants.{Control, Format, LineSeparator, ParagraphSeparator}
+use Rattle.unicode.specs.GeneralCategory.{general_category}
 use Rattle.rn_tell.specs.declared.report.Colours.{Colours}
 use Rattle.rn_tell.specs.declared.report.Colours.TheVariants.{Plain, Terminal}
 use Rattle.rn_tell.specs.declared.report.Grade.{Grade}
 use Rattle.rn_tell.specs.declared.report.Grade.TheVariants.{Error, Note}
 
--- a character that would control a terminal is printed as `?`, but for a tab
+-- the categories of characters that control a terminal, turn the direction of a text or are not seen, and part lines and paragraphs:
+-- Cc, Cf, Zl and Zp (Unicode, section 4.5)
+abbrev pub is_hidden : GeneralCategory → Bool
+is_hidden Control = true
+is_hidden Format = true
+is_hidden LineSeparator = true
+is_hidden ParagraphSeparator = true
+is_hidden _ = false
+
+-- a character of these categories is printed as `?`, but for a tab
 abbrev pub printable : ℕ → ℕ
-printable c = if is_control c && not (c == 9) then 63 else c
+printable c = if is_hidden (general_category c) && not (c == 9) then 63 else c
 
 abbrev pub printed_character : ℕ → List ℕ
 printed_character c = encode_utf8 (printable c)

@@ -1,4 +1,5 @@
 // The fault of a text as a sentence.
+use crate::report::shown_name;
 use rn_merge::Place;
 use rn_outline::{Grouped, MAX_OPEN};
 use rn_text::{Token, tokens};
@@ -68,7 +69,10 @@ pub fn unexpected_token(alloc: Global, text: &str, at: usize) -> Result<String, 
         return String::from_str(alloc, "this can't stand here");
     };
     match token_at(tokens.as_slice(), at) {
-        Some(token) => format!(in alloc; "`{token}` can't stand here"),
+        Some(token) => {
+            let token = shown_name(alloc, token)?;
+            format!(in alloc; "`{token}` can't stand here")
+        }
         None => String::from_str(alloc, "the schema ends too early"),
     }
 }

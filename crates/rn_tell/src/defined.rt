@@ -160,24 +160,24 @@ fn push_brought(
     Ok(())
 }
 
-/// What a definition refers to: the references behind it, up to the next definition.
+/// What a definition refers to: the references after it, up to the next definition.
 pub fn uses<'v>(
     alloc: Global,
     sites: &'v Sites<'_>,
     site: Site,
 ) -> Result<Vec<Use<'v>>, AllocError> {
-    let Site { module, part } = site;
+    let module = site.module;
+    let first = site.part.saturating_add(1);
     let mut uses = Vec::new(alloc);
     let text = sites.text(module);
-    for (number, part) in sites.parts(module).iter().enumerate().skip(part).skip(1) {
+    let after = sites.parts(module).get(first..).unwrap_or(&[]);
+    for (offset, part) in after.iter().enumerate() {
         if key_of(text, part).is_some() {
             break;
         }
         if let Some((name, at)) = use_of(text, part) {
-            let site = Site {
-                module,
-                part: number,
-            };
+            let part = first.saturating_add(offset);
+            let site = Site { module, part };
             uses.push(Use { name, at, site })?;
         }
     }

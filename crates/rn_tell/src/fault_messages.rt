@@ -2,7 +2,7 @@
 use crate::check_sentences::{
     ENCODING, LEXICAL, MEMORY, deep_sentence, limit_sentence, unexpected_token,
 };
-use crate::report::{Message, Page, Spot, text_of_page};
+use crate::report::{MAX_TOLD, Message, Page, Spot, text_of_page};
 use rn_files::{FaultPlace, MAX_SOURCES, SourceFault, SourceFaultKind};
 use rn_lift::{Lifted, MAX_EXCEPTS, MAX_GROWTH};
 use rn_modset::{AddFault, MAX_CONTRIBUTIONS, MAX_NAME, MAX_TEXT};
@@ -90,12 +90,16 @@ fn unexpected_at(
     }
 }
 
-/// The files of a loop of references, in order, which comes back to the first.
+/// The files of a loop of references, in order, which comes back to the first. Of a long one the first files are named.
 fn loop_sentence(alloc: Global, pages: &[Page<'_>], files: &[usize]) -> Result<String, AllocError> {
     let mut sentence = String::from_str(alloc, "the file refers to itself: ")?;
-    for file in files {
+    for file in files.iter().take(MAX_TOLD) {
         push_path(&mut sentence, pages, *file)?;
         sentence.push_str(", ")?;
+    }
+    let others = files.len().saturating_sub(MAX_TOLD);
+    if others > 0 {
+        sentence.push_str(format!(in alloc; "{others} more, ")?.as_str())?;
     }
     match files.first() {
         Some(first) => push_path(&mut sentence, pages, *first)?,

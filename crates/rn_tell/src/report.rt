@@ -3,16 +3,20 @@ ghost use Rattle.std.specs.Prelude.{◌≡◌, ◌<◌, ◌≤◌, ◌++◌, IfO
 ghost use Rattle.rn_tell.specs.Limits.{max_told};
 ghost use Rattle.rn_tell.specs.Messages.{AreLines, IsFew, IsMessagePlace, IsPlaceAt, IsPlaceIn, note};
 ghost use Rattle.rn_tell.specs.inside.Messages.{AddsMessage, one_more};
-ghost use Rattle.rn_tell.specs.PrintedCharacters.{colour, head, painted, printable, printed, word};
+ghost use Rattle.rn_tell.specs.PrintedCharacters.{colour, head, is_hidden, painted, printable, printed, word};
 
 use rn_files::{Attempt, SourceFile, line_of, position};
 use std::alloc::{AllocError, Global};
+use unicode::properties::GeneralCategory;
 
 /// The most messages that are told together; faults beyond them are counted.
 pub const MAX_TOLD: usize = 20;
 
 /// The most characters of a line that are shown.
 pub const SHOWN: usize = 160;
+
+/// The most characters of a name or a token that are shown.
+const SHOWN_NAME: usize = 80;
 
 /// How many characters before a place are shown of a longer line.
 const BEFORE: usize = 80;
@@ -144,8 +148,9 @@ pub enum Colours {
 }
 
 /// What is told, as lines: for each message `FILE:LINE:COLUMN: error: SENTENCE`, the line of the file, and a caret
-/// below the place; then a note that says how many faults are not told. A character that would control a terminal is
-/// shown as `?`. Of a line of more than [`SHOWN`] characters a part is shown.
+/// below the place; then a note that says how many faults are not told. A character that would control a terminal, turn
+/// the direction of a text, part lines or not be seen is shown as `?` (Unicode's general categories Cc, Cf, Zl and Zp,
+/// but for a tab). Of a line of more than [`SHOWN`] characters a part is shown.
 pub fn message_lines(
     alloc: Global,
     pages: &[Page<'_>],
@@ -348,8 +353,18 @@ fn push_indent(
     Ok(())
 }
 
-/// Appends a text, of which no character controls a terminal. Refused only for want of memory: a front of it is there
-/// then.
+/// A name or a token as a message shows it: of a longer one the first [`SHOWN_NAME`] characters, and then two dots.
+pub(crate) fn shown_name(alloc: Global, name: &str) -> Result<String, AllocError> {
+    let mut shown = format!(in alloc; "{name:.SHOWN_NAME$}")?;
+    if shown.len() < name.len() {
+        shown.push_str("..")?;
+    }
+    Ok(shown)
+}
+
+/// Appends a text. Each character that would control a terminal, turn the direction of a text, part lines or not be seen
+/// is `?` (Unicode's general categories Cc, Cf, Zl and Zp, but for a tab). Refused only when out of memory: a front of
+/// the text is there then.
 pub fn push_printable(lines: &mut String, text: &str) -> Result<(), AllocError>
     ensures { OnOk result (string_bytes lines.new ≡ string_bytes lines.old ++ printed text.now) }
 {
@@ -359,11 +374,24 @@ pub fn push_printable(lines: &mut String, text: &str) -> Result<(), AllocError>
     Ok(())
 }
 
-/// The character, or `?` where it would control a terminal.
+/// Whether characters of a category control a terminal, turn the direction of a text, part lines or are not seen.
+fn is_hidden(category: GeneralCategory) -> bool
+    ensures { result ≡ is_hidden category }
+{
+    matches!(
+        category,
+        GeneralCategory::Control
+            | GeneralCategory::Format
+            | GeneralCategory::LineSeparator
+            | GeneralCategory::ParagraphSeparator
+    )
+}
+
+/// The character, or `?` where it would do more than be seen; a tab stays.
 fn printable_character(character: char) -> char
     ensures { result ≡ printable character }
 {
-    if character.is_control() && character != '\t' {
+    if is_hidden(GeneralCategory::for_char(character)) && character != '\t' {
         '?'
     } else {
         character

@@ -11,7 +11,9 @@ use crate::findings::{
 use crate::further_refusals::{FurtherRefusal, RefusalKind, refusals_from};
 use crate::general_sentences::general_sentence;
 use crate::loop_sites::loop_of;
-use crate::report::{MAX_TOLD, Message, Messages, Page, Spot, place_text, source_pages};
+use crate::report::{
+    MAX_TOLD, Message, Messages, Page, Spot, place_text, shown_name, source_pages,
+};
 use crate::sites::{Site, name_of_key, sites_of};
 use rn_assemble::Refusal;
 use rn_files::SourceFile;
@@ -33,9 +35,11 @@ pub fn refusal_messages(
 ) -> Result<Messages, AllocError>
     ensures { IfOk result IsFew }
 {
-    let told = text_messages(alloc, lifted.modules.as_slice())?;
-    if !told.messages.is_empty() {
-        return Ok(told);
+    if is_of_text(refusal) {
+        let told = text_messages(alloc, lifted.modules.as_slice())?;
+        if !told.messages.is_empty() {
+            return Ok(told);
+        }
     }
     let pages = source_pages(alloc, files)?;
     let sites = sites_of(alloc, lifted)?;
@@ -56,6 +60,21 @@ pub fn refusal_messages(
     } else {
         tell(&telling, found.as_slice())
     }
+}
+
+/// Whether the refusal says that the text of a module is at fault. No other refusal is answered where one is.
+fn is_of_text(refusal: &Refusal) -> bool {
+    matches!(
+        refusal,
+        Refusal::Encoding { .. }
+            | Refusal::Lexical { .. }
+            | Refusal::Deep { .. }
+            | Refusal::Syntax { .. }
+            | Refusal::Prefix { .. }
+            | Refusal::Builtin { .. }
+            | Refusal::ContextValue { .. }
+            | Refusal::Except { .. }
+    )
 }
 
 /// The messages of these refusals.
@@ -128,7 +147,7 @@ fn site_text(telling: &Telling<'_>, site: Site) -> Result<String, AllocError> {
 
 /// Two definitions by `=`, or one that two includes bring.
 fn plain_twice(telling: &Telling<'_>, finding: Finding<'_>) -> Result<String, AllocError> {
-    let name = finding.name;
+    let name = shown_name(telling.alloc, finding.name)?;
     match (finding.here, finding.there, finding.elsewhere) {
         (Some(_), Some(one), Some(other)) => {
             let one = site_text(telling, one)?;
@@ -161,7 +180,7 @@ fn mixed_methods(telling: &Telling<'_>, finding: Finding<'_>) -> Result<String, 
     let (Some(_), Some(interleave)) = (finding.here, finding.there) else {
         return sentence_on(telling, finding, "is combined by |= and by &=");
     };
-    let name = finding.name;
+    let name = shown_name(telling.alloc, finding.name)?;
     let other = site_text(telling, interleave)?;
     format!(in telling.alloc; "`{name}` is combined by |= here, and by &= in {other}")
 }
@@ -172,7 +191,7 @@ fn unfounded_override(telling: &Telling<'_>, finding: Finding<'_>) -> Result<Str
         let what = "replaces what the included file does not define";
         return sentence_on(telling, finding, what);
     };
-    let name = finding.name;
+    let name = shown_name(telling.alloc, finding.name)?;
     let file = included_path(telling, include);
     let place = site_text(telling, include)?;
     format!(in telling.alloc;
@@ -201,19 +220,20 @@ fn sentence_on(
     finding: Finding<'_>,
     what: &str,
 ) -> Result<String, AllocError> {
-    let name = finding.name;
+    let name = shown_name(telling.alloc, finding.name)?;
     format!(in telling.alloc; "`{name}` {what}")
 }
 
 /// A name that comes back to itself outside elements.
 fn recursive_name(telling: &Telling<'_>, name: &str) -> Result<Placed, AllocError> {
-    let written = spelled_key(telling, name);
+    let written = shown_name(telling.alloc, spelled_key(telling, name))?;
     let mut sentence = format!(in telling.alloc; "`{written}` refers to itself outside elements")?;
     let way = loop_of(telling.alloc, telling.sites, telling.defined, name)?;
     for (number, site) in way.iter().copied().enumerate().take(MAX_TOLD) {
         if number > 0 {
             sentence.push_str(if number == 1 { ": by `" } else { ", then `" })?;
-            sentence.push_str(name_at(telling, site))?;
+            let name = shown_name(telling.alloc, name_at(telling, site))?;
+            sentence.push_str(name.as_str())?;
             sentence.push_str("` in ")?;
             sentence.push_str(site_text(telling, site)?.as_str())?;
         }
@@ -241,7 +261,7 @@ fn name_at<'t>(telling: &Telling<'t>, site: Site) -> &'t str {
 
 /// Definitions with a name class that is not allowed in one of them.
 fn name_class(telling: &Telling<'_>, key: &str) -> Result<Placed, AllocError> {
-    let name = spelled_key(telling, key);
+    let name = shown_name(telling.alloc, spelled_key(telling, key))?;
     let sentence = format!(in telling.alloc;
         "a definition of `{name}`, of which this is the first, has a name class that is not allowed: * excepts *, p:* excepts * or p:*, or an attribute may be named xmlns (RELAX NG, section 4.16)"
     )?;
