@@ -21,7 +21,7 @@ pub record IsFlatSchema (text : List ℕ) : Type 0 where
 
 -- a product that is the schema is the text of one
 abbrev pub IsProduct : Product → List ℕ → Type 0
-IsProduct Schema text = IsFlatSchema text
+IsProduct (Schema syntax) text = IsFlatSchema text
 IsProduct Bundle text = Unit {0}
 IsProduct Listing text = Unit {0}
 IsProduct Graph text = Unit {0}
@@ -30,5 +30,5 @@ IsProduct Graph text = Unit {0}
 abbrev pub Delivers : {T : Type 0} → Task → Option (List ℕ) → Option (List ℕ) → (List ℕ → List ℕ → Type 0) → (List ℕ → List ℕ → Type 0) → Result T FlatFault → Type 0
 Delivers (Write product None) old new holds gives (Ok x) = (text : List ℕ) × IsProduct product text × Appends old new text
 Delivers (Write product (Some path)) old new holds gives (Ok x) = (text : List ℕ) × IsProduct product text × holds (string_bytes path) text
-Delivers (Check file) old new holds gives (Ok x) = (text : List ℕ) × IsFlatSchema text × gives (string_bytes file) text
+Delivers (Check file syntax) old new holds gives (Ok x) = (text : List ℕ) × IsFlatSchema text × gives (string_bytes file) text
 Delivers task old new holds gives (Err fault) = Unit {0}

@@ -1,0 +1,17 @@
+-- Name classes that are one name.
+use Rattle.std.specs.Prelude.{◌≡◌, List}
+use Rattle.rn_text.specs.Texts.{Text}
+use Rattle.rn_syntax.specs.Tree as t
+use Rattle.rn_syntax.specs.Tree.{Declaration, NameClass}
+use Rattle.rn_rng.specs.declared.namespaces.QualifiedName.{QualifiedName}
+use Rattle.rn_rng.specs.inside.Namespaces.{uri_view}
+use Rattle.rn_rng.specs.Translation.{local_name, name_uri}
+
+abbrev pub IsNoName : NameClass → Type 0
+IsNoName (t.name n) = ⊥
+IsNoName c = Unit {0}
+
+-- the class is this name
+abbrev pub IsNameOf : List Declaration → (own : Text) → NameClass → QualifiedName → Type 0
+IsNameOf ds own (t.name n) q = (uri_view ds q.namespace ≡ name_uri ds own n) × (q.local.now ≡ local_name ds n)
+IsNameOf ds own c q = ⊥
