@@ -32,11 +32,11 @@ abbrev pub attribute_text : Text × Text → Text
 attribute_text a = 32 ∷ (a.0 ++ (61 ∷ 34 ∷ (flat_map value_escape a.1 ++ 34 ∷ [])))
 
 abbrev pub attributes_text : Attributes → Text
-attributes_text as = flat_map attribute_text as
+attributes_text attrs = flat_map attribute_text attrs
 
 -- a start tag, or the tag of an element without content, up to its end
 abbrev pub tag_front : Text → Attributes → Text
-tag_front n as = 60 ∷ (n ++ attributes_text as)
+tag_front n attrs = 60 ∷ (n ++ attributes_text attrs)
 
 -- an end tag, and the end of its line
 abbrev pub end_line : Text → Text
@@ -44,9 +44,9 @@ end_line n = 60 ∷ 47 ∷ (n ++ 62 ∷ 10 ∷ [])
 
 abbrev mutual
   pub element_text : (level : ℕ) → Element → Text
-  element_text level (leaf n as s) = indent level ++ (tag_front n as ++ (62 ∷ (flat_map text_escape s ++ end_line n)))
-  element_text level (parent n as no_elements) = indent level ++ (tag_front n as ++ 47 ∷ 62 ∷ 10 ∷ [])
-  element_text level (parent n as (more_elements x xs)) = indent level ++ (tag_front n as ++ (62 ∷ 10 ∷
+  element_text level (leaf n attrs s) = indent level ++ (tag_front n attrs ++ (62 ∷ (flat_map text_escape s ++ end_line n)))
+  element_text level (parent n attrs no_elements) = indent level ++ (tag_front n attrs ++ 47 ∷ 62 ∷ 10 ∷ [])
+  element_text level (parent n attrs (more_elements x xs)) = indent level ++ (tag_front n attrs ++ (62 ∷ 10 ∷
       ((element_text (deeper level) x ++ elements_text (deeper level) xs) ++ (indent level ++ end_line n))))
 
   pub elements_text : (level : ℕ) → Elements → Text
@@ -59,9 +59,9 @@ declaration_line = codes "<?xml version=\"1.0\" encoding=\"UTF-8\"?>" ++ 10 ∷ 
 
 -- the root has the namespace of all elements as its first attribute (Namespaces in XML, 6.2)
 abbrev pub root_front : Text → Attributes → Text
-root_front n as = tag_front n ((codes "xmlns", rng_uri) ∷ as)
+root_front n attrs = tag_front n ((codes "xmlns", rng_uri) ∷ attrs)
 
 -- the text of a root
 abbrev pub xml_text : Element → Text
-xml_text (leaf n as s) = declaration_line ++ (root_front n as ++ (62 ∷ (flat_map text_escape s ++ end_line n)))
-xml_text (parent n as xs) = declaration_line ++ (root_front n as ++ (62 ∷ 10 ∷ (elements_text (deeper 0) xs ++ end_line n)))
+xml_text (leaf n attrs s) = declaration_line ++ (root_front n attrs ++ (62 ∷ (flat_map text_escape s ++ end_line n)))
+xml_text (parent n attrs xs) = declaration_line ++ (root_front n attrs ++ (62 ∷ 10 ∷ (elements_text (deeper 0) xs ++ end_line n)))

@@ -36,9 +36,9 @@ inherited_in taken u around = if needs_ns taken u then u else around
 
 -- the children of an element of this name that has some, and any other element alone: where a parent wraps its children so (4.12)
 abbrev pub unwrapped : (wrapper : Text) → Element → Elements
-unwrapped w (parent n as (more_elements x xs)) = if bytes_eq n w then more_elements x xs else one_element (parent n as (more_elements x xs))
-unwrapped w (parent n as no_elements) = one_element (parent n as no_elements)
-unwrapped w (leaf n as s) = one_element (leaf n as s)
+unwrapped w (parent n attrs (more_elements x xs)) = if bytes_eq n w then more_elements x xs else one_element (parent n attrs (more_elements x xs))
+unwrapped w (parent n attrs no_elements) = one_element (parent n attrs no_elements)
+unwrapped w (leaf n attrs s) = one_element (leaf n attrs s)
 
 abbrev pub grouped : Element → Elements
 grouped x = unwrapped (codes "group") x
@@ -68,22 +68,27 @@ combine m.Plain = []
 combine m.Choice = (codes "combine", codes "choice") ∷ []
 combine m.Interleave = (codes "combine", codes "interleave") ∷ []
 
+-- a name without its prefix
+abbrev pub local_name : Name → Text
+local_name (t.local l) = l
+local_name (t.prefixed p l i) = l
+
+abbrev pub any_element : AnyName → Text
+any_element t.any = codes "anyName"
+any_element (t.any_of p i) = codes "nsName"
+
+abbrev pub param_elements : Params → Elements
+param_elements [] = no_elements
+param_elements (e ∷ es) = more_elements (leaf (codes "param") ((codes "name", e.0) ∷ []) e.1) (param_elements es)
+
 -- ds: the declarations of the module, which inherits no namespace
 module _ (ds : List Declaration) where
-  -- the namespace of a name, and the name without its prefix; own: the namespace of a name without prefix
+  -- the namespace of a name; own: that of a name without prefix
   abbrev pub name_uri : (own : Text) → Name → Text
   name_uri own (t.local l) = own
   name_uri own (t.prefixed p l i) = namespace_of [] ds p
 
-  abbrev pub local_name : Name → Text
-  local_name (t.local l) = l
-  local_name (t.prefixed p l i) = l
-
   -- ---- name classes
-
-  abbrev pub any_element : AnyName → Text
-  any_element t.any = codes "anyName"
-  any_element (t.any_of p i) = codes "nsName"
 
   abbrev pub any_attributes : AnyName → Attributes
   any_attributes t.any = []
@@ -134,10 +139,6 @@ module _ (ds : List Declaration) where
   abbrev pub value_attributes : Option Datatype → Attributes
   value_attributes None = []
   value_attributes (Some d) = type_attributes d
-
-  abbrev pub param_elements : Params → Elements
-  param_elements [] = no_elements
-  param_elements (e ∷ es) = more_elements (leaf (codes "param") ((codes "name", e.0) ∷ []) e.1) (param_elements es)
 
   -- ---- patterns
 

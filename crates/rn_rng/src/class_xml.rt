@@ -59,8 +59,7 @@ fn write_name(
 
 /// The tag of all names, or of all of a namespace.
 fn any_tag<'t>(namespaces: &'t Namespaces<'_, '_>, any: &AnyName<'_>) -> Tag<'t>
-    ensures element { result.element.now ≡ any_element (declared namespaces.now)
-        (any_view any.now) }
+    ensures element { result.element.now ≡ any_element (any_view any.now) }
     ensures attributes { attributes_view result ≡ any_attributes (declared namespaces.now)
         (any_view any.now) }
 {

@@ -70,8 +70,8 @@ pub(crate) fn write_value(
 
 /// Writes the lines of parameters.
 pub(crate) fn write_params(writer: &mut Writer, level: usize, params: &[Param<'_>])
-    ensures { (ds : List Declaration) → Writes (elements_text level
-        (param_elements ds (params_view params.now))) writer.old writer.new }
+    ensures { Writes (elements_text level (param_elements (params_view params.now)))
+        writer.old writer.new }
 {
     for param in params {
         let tag = Tag::with("param", Attribute::new("name", param.name));

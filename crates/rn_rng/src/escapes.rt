@@ -32,9 +32,12 @@ impl Holder {
 pub(crate) fn is_plain(text: &str) -> bool
     ensures { result ≡ list_all is_plain_byte text.now }
 {
-    let mut plain = true;
-    for b in text.as_bytes() {
-        plain &= !matches!(*b, b'&' | b'<' | b'>' | b'"' | b'\t' | b'\n' | b'\r');
-    }
-    plain
+    text.as_bytes().iter().all(|b| is_plain_byte(*b))
+}
+
+/// Whether no reference stands for the byte, wherever it is.
+fn is_plain_byte(b: u8) -> bool
+    ensures { result ≡ is_plain_byte b }
+{
+    !matches!(b, b'&' | b'<' | b'>' | b'"' | b'\t' | b'\n' | b'\r')
 }

@@ -7,13 +7,13 @@
 mod class_xml;
 mod data_xml;
 mod escapes;
+pub mod grammar_xml;
 mod lines;
 mod namespaces;
 mod pattern_xml;
-pub mod schema_xml;
 mod tag;
 pub mod xml_fault;
 
+pub use grammar_xml::{module_xml, schema_xml};
 pub use lines::MAX_XML;
-pub use schema_xml::{module_xml, schema_xml};
 pub use xml_fault::XmlFault;

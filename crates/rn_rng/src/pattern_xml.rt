@@ -264,7 +264,7 @@ fn write_data_but(
     ensures { let ds = declared namespaces.now in let around = uri_view ds place.inherited in
         Writes (element_text place.level (parent (codes "data")
         (type_attributes ds (datatype_view «data».now.datatype))
-        (joined (param_elements ds (params_view «data».now.params.items))
+        (joined (param_elements (params_view «data».now.params.items))
         (one_element (parent (codes "except") []
         (chosen (pattern_element ds around (pattern_view except.now)))))))) writer.old writer.new }
 {

@@ -13,5 +13,5 @@ IsNoName c = Unit {0}
 
 -- the class is this name
 abbrev pub IsNameOf : List Declaration → (own : Text) → NameClass → QualifiedName → Type 0
-IsNameOf ds own (t.name n) q = (uri_view ds q.namespace ≡ name_uri ds own n) × (q.local.now ≡ local_name ds n)
+IsNameOf ds own (t.name n) q = (uri_view ds q.namespace ≡ name_uri ds own n) × (q.local.now ≡ local_name n)
 IsNameOf ds own c q = ⊥

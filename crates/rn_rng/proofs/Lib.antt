@@ -1,0 +1,4 @@
+pub mod Writing
+pub mod Escaping
+pub mod Rows
+pub mod Lines
