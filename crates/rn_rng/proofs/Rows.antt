@@ -32,13 +32,13 @@ pub class_rows : (level : ℕ) (ds : List Declaration) (own around : Text) (xs :
 class_rows level ds own around [] = refl
 class_rows level ds own around (x ∷ xs) = ap (λ t. class_row level ds own around x ++ t) (class_rows level ds own around xs)
 
-abbrev pub pattern_row : ℕ → List Declaration → (around : Text) → Pat → Text
-pattern_row level ds around p = element_text level (pattern_element ds around (pattern_view p))
+abbrev pub pattern_row : ℕ → List Declaration → (around lib : Text) → Pat → Text
+pattern_row level ds around lib p = element_text level (pattern_element ds around lib (pattern_view p))
 
-pub pattern_rows : (level : ℕ) (ds : List Declaration) (around : Text) (xs : List Pat)
-    → flat_map (pattern_row level ds around) xs ≡ elements_text level (pattern_elements ds around (patterns_of (map pattern_view xs)))
-pattern_rows level ds around [] = refl
-pattern_rows level ds around (x ∷ xs) = ap (λ t. pattern_row level ds around x ++ t) (pattern_rows level ds around xs)
+pub pattern_rows : (level : ℕ) (ds : List Declaration) (around lib : Text) (xs : List Pat)
+    → flat_map (pattern_row level ds around lib) xs ≡ elements_text level (pattern_elements ds around lib (patterns_of (map pattern_view xs)))
+pattern_rows level ds around lib [] = refl
+pattern_rows level ds around lib (x ∷ xs) = ap (λ t. pattern_row level ds around lib x ++ t) (pattern_rows level ds around lib xs)
 
 abbrev pub item_row : ℕ → List Declaration → Item → Text
 item_row level ds x = elements_text level (item_elements ds (item_view x))

@@ -32,6 +32,10 @@ ns_attribute taken u = if needs_ns taken u then (codes "ns", u) ∷ [] else []
 abbrev pub inherited_in : (taken uri around : Text) → Text
 inherited_in taken u around = if needs_ns taken u then u else around
 
+-- the library of a datatype stands where it does not inherit it; taken: what it inherits (4.3)
+abbrev pub library_attribute : (taken library : Text) → Attributes
+library_attribute taken l = if bytes_eq l taken then [] else (codes "datatypeLibrary", l) ∷ []
+
 -- ---- wrappers
 
 -- the children of an element of this name that has some, and any other element alone: where a parent wraps its children so (4.12)
@@ -128,49 +132,46 @@ module _ (ds : List Declaration) where
   inherited_in_named own taken around (t.name n) = inherited_in taken (name_uri own n) around
   inherited_in_named own taken around c = around
 
-  -- ---- datatypes; the library of XML Schema is that of the root (4.3)
+  -- ---- datatypes
 
-  abbrev pub library_attribute : Text → Attributes
-  library_attribute l = if bytes_eq l xsd_uri then [] else (codes "datatypeLibrary", l) ∷ []
+  abbrev pub type_attributes : (taken : Text) → Datatype → Attributes
+  type_attributes taken d = (codes "type", type_name [] ds d) ∷ library_attribute taken (type_library [] ds d)
 
-  abbrev pub type_attributes : Datatype → Attributes
-  type_attributes d = (codes "type", type_name [] ds d) ∷ library_attribute (type_library [] ds d)
+  abbrev pub value_attributes : (taken : Text) → Option Datatype → Attributes
+  value_attributes taken None = []
+  value_attributes taken (Some d) = type_attributes taken d
 
-  abbrev pub value_attributes : Option Datatype → Attributes
-  value_attributes None = []
-  value_attributes (Some d) = type_attributes d
-
-  -- ---- patterns
+  -- ---- patterns; around and lib: the namespace and the library that are inherited
 
   abbrev mutual
-    pub pattern_element : (around : Text) → Pattern → Element
-    pattern_element around (t.element c p) = parent (codes "element") (class_attributes (default_of [] ds) around c)
-        (joined (class_child (default_of [] ds) around c) (grouped (pattern_element (inherited_in_named (default_of [] ds) around around c) p)))
-    pattern_element around (t.attribute c p) = parent (codes "attribute") (class_attributes [] [] c)
-        (joined (class_child [] around c) (attribute_content p (pattern_element (inherited_in_named [] [] around c) p)))
-    pattern_element around (t.list p) = parent (codes "list") [] (grouped (pattern_element around p))
-    pattern_element around (t.mixed p) = parent (codes "mixed") [] (grouped (pattern_element around p))
-    pattern_element around t.empty = parent (codes "empty") [] no_elements
-    pattern_element around t.not_allowed = parent (codes "notAllowed") [] no_elements
-    pattern_element around t.text = parent (codes "text") [] no_elements
-    pattern_element around (t.ref x) = parent (codes "ref") ((codes "name", x) ∷ []) no_elements
-    pattern_element around (t.value d s) = leaf (codes "value") (value_attributes d) s
-    pattern_element around (t.datum d ps) = parent (codes "data") (type_attributes d) (param_elements ps)
-    pattern_element around (t.datum_but d ps i p) = parent (codes "data") (type_attributes d)
-        (joined (param_elements ps) (one_element (parent (codes "except") [] (chosen (pattern_element around p)))))
-    pattern_element around (t.repeated s p) = parent (repetition s) [] (grouped (pattern_element around p))
-    pattern_element around (t.chain op ps) = parent (connector op) [] (pattern_elements around ps)
+    pub pattern_element : (around lib : Text) → Pattern → Element
+    pattern_element around lib (t.element c p) = parent (codes "element") (class_attributes (default_of [] ds) around c)
+        (joined (class_child (default_of [] ds) around c) (grouped (pattern_element (inherited_in_named (default_of [] ds) around around c) lib p)))
+    pattern_element around lib (t.attribute c p) = parent (codes "attribute") (class_attributes [] [] c)
+        (joined (class_child [] around c) (attribute_content p (pattern_element (inherited_in_named [] [] around c) lib p)))
+    pattern_element around lib (t.list p) = parent (codes "list") [] (grouped (pattern_element around lib p))
+    pattern_element around lib (t.mixed p) = parent (codes "mixed") [] (grouped (pattern_element around lib p))
+    pattern_element around lib t.empty = parent (codes "empty") [] no_elements
+    pattern_element around lib t.not_allowed = parent (codes "notAllowed") [] no_elements
+    pattern_element around lib t.text = parent (codes "text") [] no_elements
+    pattern_element around lib (t.ref x) = parent (codes "ref") ((codes "name", x) ∷ []) no_elements
+    pattern_element around lib (t.value d s) = leaf (codes "value") (value_attributes lib d) s
+    pattern_element around lib (t.datum d ps) = parent (codes "data") (type_attributes lib d) (param_elements ps)
+    pattern_element around lib (t.datum_but d ps i p) = parent (codes "data") (type_attributes lib d)
+        (joined (param_elements ps) (one_element (parent (codes "except") [] (chosen (pattern_element around (type_library [] ds d) p)))))
+    pattern_element around lib (t.repeated s p) = parent (repetition s) [] (grouped (pattern_element around lib p))
+    pattern_element around lib (t.chain op ps) = parent (connector op) [] (pattern_elements around lib ps)
 
-    pub pattern_elements : (around : Text) → Patterns → Elements
-    pattern_elements around t.no_patterns = no_elements
-    pattern_elements around (t.pattern p ps) = more_elements (pattern_element around p) (pattern_elements around ps)
+    pub pattern_elements : (around lib : Text) → Patterns → Elements
+    pattern_elements around lib t.no_patterns = no_elements
+    pattern_elements around lib (t.pattern p ps) = more_elements (pattern_element around lib p) (pattern_elements around lib ps)
 
   -- ---- items; no flat module has an include
 
   abbrev mutual
     pub item_elements : Item → Elements
-    item_elements (t.define x m p) = one_element (parent (codes "define") ((codes "name", x) ∷ combine m) (grouped (pattern_element [] p)))
-    item_elements (t.start m p) = one_element (parent (codes "start") (combine m) (one_element (pattern_element [] p)))
+    item_elements (t.define x m p) = one_element (parent (codes "define") ((codes "name", x) ∷ combine m) (grouped (pattern_element [] xsd_uri p)))
+    item_elements (t.start m p) = one_element (parent (codes "start") (combine m) (one_element (pattern_element [] xsd_uri p)))
     item_elements (t.div xs) = one_element (parent (codes "div") [] (items_elements xs))
     item_elements (t.include wanted inherit xs) = no_elements
 

@@ -3,6 +3,7 @@ ghost use Rattle.std.specs.Prelude.{◌≡◌, ◌↔◌, ◌∷◌, [], IfErr, 
 ghost use Rattle.std.specs.Str.{chars};
 ghost use Rattle.rn_text.specs.Tokens.{HasTokens, lexeme_of};
 ghost use Rattle.rn_syntax.specs.Faults.{IsSound};
+ghost use Rattle.rn_syntax.specs.Places.{xsd_uri};
 ghost use Rattle.rn_syntax.specs.Spelled.{AreSpelled};
 ghost use Rattle.rn_syntax.specs.View.{item_view, items_view, module_view, pattern_view};
 ghost use Rattle.rn_rng.specs.Elements.{one_element, parent};
@@ -149,10 +150,10 @@ fn write_div(
         writer.old writer.new }
 {
     if items.is_empty() {
-        writer.empty(level, &Tag::bare("div"));
+        writer.empty_bare(level, "div");
         return;
     }
-    writer.open(level, &Tag::bare("div"));
+    writer.open_bare(level, "div");
     write_items(writer, namespaces, deeper(level), items);
     writer.close(level, "div");
 }
@@ -168,7 +169,8 @@ fn write_definition(
 )
     ensures { Writes (element_text level (parent (codes "define")
         ((codes "name", name.now) ∷ combine method)
-        (grouped (pattern_element (declared namespaces.now) [] (pattern_view body.now)))))
+        (grouped (pattern_element (declared namespaces.now) [] xsd_uri
+        (pattern_view body.now)))))
         writer.old writer.new }
 {
     if writer.stopped.is_some() {
@@ -193,7 +195,8 @@ fn write_start(
     body: &Pat<'_>,
 )
     ensures { Writes (element_text level (parent (codes "start") (combine method)
-        (one_element (pattern_element (declared namespaces.now) [] (pattern_view body.now)))))
+        (one_element (pattern_element (declared namespaces.now) [] xsd_uri
+        (pattern_view body.now)))))
         writer.old writer.new }
 {
     let tag = Tag {

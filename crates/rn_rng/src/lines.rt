@@ -1,7 +1,7 @@
 // Lines of XML, which are written one by one up to a limit.
 ghost use Rattle.std.specs.Prelude.{◌≡◌, ◌∷◌, ◌++◌, [], None, IfErr, IfOk, encode_utf8, string_bytes};
 ghost use Rattle.rn_rng.specs.Elements.{leaf, no_elements, parent};
-ghost use Rattle.rn_rng.specs.Layout.{attribute_text, attributes_text, deeper, element_text, end_line, indent};
+ghost use Rattle.rn_rng.specs.Layout.{attribute_text, attributes_text, deeper, element_text, end_line, indent, tag_front};
 ghost use Rattle.rn_rng.specs.inside.Escapes.{escaped};
 ghost use Rattle.rn_rng.specs.inside.Tags.{attribute_view, attributes_view, front_text, optional_view};
 ghost use Rattle.rn_rng.specs.inside.Writes.{IsHindrance, Writes, stop_behind};
@@ -199,6 +199,22 @@ impl Writer {
     {
         self.put_front(level, tag);
         self.put("/>\n");
+    }
+
+    /// Appends the line of a start tag without attributes.
+    pub fn open_bare(&mut self, level: usize, element: &str)
+        ensures { Writes ((indent level ++ tag_front element.now []) ++ 62 ∷ 10 ∷ [])
+            self.old self.new }
+    {
+        self.open(level, &Tag::bare(element));
+    }
+
+    /// Appends the line of an element without attributes and content.
+    pub fn empty_bare(&mut self, level: usize, element: &str)
+        ensures { Writes (element_text level (parent element.now [] no_elements))
+            self.old self.new }
+    {
+        self.empty(level, &Tag::bare(element));
     }
 
     /// Appends the line of an element that holds two texts in a row.

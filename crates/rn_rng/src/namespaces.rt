@@ -1,5 +1,5 @@
 // The namespaces and datatype libraries of a module, and where a namespace is inherited (RELAX NG 2001, 4.3 and 4.9).
-ghost use Rattle.std.specs.Prelude.{◌≡◌, ◌∷◌, ◌++◌, [], IfOk, bytes_eq, codes, map, unwrap_or};
+ghost use Rattle.std.specs.Prelude.{◌≡◌, ◌++◌, [], IfOk, bytes_eq, map, unwrap_or};
 ghost use Rattle.rn_text.specs.Texts.{Text};
 ghost use Rattle.rn_syntax.specs.BindingDeclarations.{bound};
 ghost use Rattle.rn_syntax.specs.Places.{library_of, uri_at, xml_uri};
@@ -7,22 +7,24 @@ ghost use Rattle.rn_syntax.specs.View as seen;
 ghost use Rattle.rn_syntax.specs.View.{datatype_view, declaration_view};
 ghost use Rattle.rn_assemble.specs.Resolve.{default_of, namespace_of, type_library, uri_text};
 ghost use Rattle.rn_rng.specs.Layout.{deeper};
-ghost use Rattle.rn_rng.specs.Translation.{inherited_in, needs_ns, ns_attribute, qualified};
-ghost use Rattle.rn_rng.specs.inside.Tags.{attributes_view, optional_view};
+ghost use Rattle.rn_rng.specs.Translation.{library_attribute, needs_ns, ns_attribute, qualified};
+ghost use Rattle.rn_rng.specs.inside.Tags.{optional_view};
 
 use crate::lines::deeper;
-use crate::tag::{Attribute, Tag};
+use crate::tag::Attribute;
 use rn_syntax::{Bindings, Datatype, Declaration, Uri, XML_URI, XSD_URI};
 use std::alloc::{AllocError, Global};
 
-/// A namespace, by what binds it: so two that one declaration binds are known to be the same without a look at them.
+/// A URI, by what says it: so two that one declaration binds are known to be the same without a look at them.
 #[derive(Clone, Copy, PartialEq, Eq)]
-pub(crate) enum Namespace {
-    /// No namespace.
+pub(crate) enum UriSource {
+    /// The empty URI.
     Empty,
-    /// That of prefix `xml`.
+    /// The namespace of prefix `xml`.
     Xml,
-    /// That of the declaration of this number.
+    /// The library of datatype prefix `xsd`.
+    Xsd,
+    /// The URI of the declaration of this number.
     Declared(usize),
 }
 
@@ -60,82 +62,84 @@ impl<'m, 'a> Namespaces<'m, 'a> {
         }
     }
 
-    /// The URI of a namespace.
-    pub fn uri(&self, namespace: Namespace) -> &str
-        ensures { result.now ≡ uri_view (declared self.now) namespace }
+    /// The text of a URI.
+    pub fn uri(&self, source: UriSource) -> &str
+        ensures { result.now ≡ uri_view (declared self.now) source }
     {
-        match namespace {
-            Namespace::Empty => "",
-            Namespace::Xml => XML_URI,
-            Namespace::Declared(number) => self.declared(number),
+        match source {
+            UriSource::Empty => "",
+            UriSource::Xml => XML_URI,
+            UriSource::Xsd => XSD_URI,
+            UriSource::Declared(number) => self.declared(number),
         }
     }
 
     /// The namespace of elements without prefix.
-    pub fn default_namespace(&self) -> Namespace
+    pub fn default_namespace(&self) -> UriSource
         ensures { uri_view (declared self.now) result ≡ default_of [] (declared self.now) }
     {
         match self.bindings.default() {
-            Some(number) => Namespace::Declared(number),
-            None => Namespace::Empty,
+            Some(number) => UriSource::Declared(number),
+            None => UriSource::Empty,
         }
     }
 
     /// The namespace of a prefix; none for one that is not bound.
-    pub fn namespace(&self, prefix: &str) -> Namespace
+    pub fn namespace(&self, prefix: &str) -> UriSource
         ensures { uri_view (declared self.now) result
             ≡ namespace_of [] (declared self.now) prefix.now }
     {
         if prefix == "xml" {
-            return Namespace::Xml;
+            return UriSource::Xml;
         }
         match self.bindings.namespace(prefix) {
-            Some(number) => Namespace::Declared(number),
-            None => Namespace::Empty,
+            Some(number) => UriSource::Declared(number),
+            None => UriSource::Empty,
         }
     }
 
     /// The datatype library of a prefix; the empty one for a prefix that is not bound.
-    fn prefixed_library(&self, prefix: &str) -> &str
-        ensures { result.now ≡ unwrap_or (library_of (declared self.now) prefix.now) [] }
+    fn prefixed_library(&self, prefix: &str) -> UriSource
+        ensures { uri_view (declared self.now) result
+            ≡ unwrap_or (library_of (declared self.now) prefix.now) [] }
     {
         if prefix == "xsd" {
-            return XSD_URI;
+            return UriSource::Xsd;
         }
         match self.bindings.library(prefix) {
-            Some(number) => self.declared(number),
-            None => "",
+            Some(number) => UriSource::Declared(number),
+            None => UriSource::Empty,
         }
     }
 
     /// The library of a datatype.
-    pub fn library(&self, datatype: &Datatype<'_>) -> &str
-        ensures { result.now
+    pub fn library(&self, datatype: &Datatype<'_>) -> UriSource
+        ensures { uri_view (declared self.now) result
             ≡ type_library [] (declared self.now) (datatype_view datatype.now) }
     {
         match datatype {
-            Datatype::String(_) | Datatype::Token(_) => "",
+            Datatype::String(_) | Datatype::Token(_) => UriSource::Empty,
             Datatype::Named(prefix, _) => self.prefixed_library(prefix.name),
         }
     }
 
-    /// Whether two namespaces are the same.
-    fn are_same(&self, one: Namespace, other: Namespace) -> bool
+    /// Whether two URIs are the same.
+    pub fn are_same(&self, one: UriSource, other: UriSource) -> bool
         ensures { result ≡ bytes_eq (uri_view (declared self.now) one)
             (uri_view (declared self.now) other) }
     {
         one == other || self.uri(one) == self.uri(other)
     }
 
-    /// Whether the namespace is that of prefix `xml`.
-    pub fn is_xml(&self, namespace: Namespace) -> bool
+    /// Whether a namespace is that of prefix `xml`.
+    fn is_xml(&self, namespace: UriSource) -> bool
         ensures { result ≡ bytes_eq (uri_view (declared self.now) namespace) xml_uri }
     {
-        self.are_same(namespace, Namespace::Xml)
+        self.are_same(namespace, UriSource::Xml)
     }
 
-    /// Whether a name has to give its namespace where this one would be taken.
-    pub fn is_given(&self, namespace: Namespace, taken: Namespace) -> bool
+    /// Whether a name needs an `ns` where it would take this namespace without one.
+    pub fn needs_ns(&self, taken: UriSource, namespace: UriSource) -> bool
         ensures { result ≡ needs_ns (uri_view (declared self.now) taken)
             (uri_view (declared self.now) namespace) }
     {
@@ -143,22 +147,34 @@ impl<'m, 'a> Namespaces<'m, 'a> {
     }
 
     /// The prefix before a name of the namespace, with its colon.
-    pub fn prefix_of(&self, namespace: Namespace) -> &'static str
+    pub fn prefix_of(&self, namespace: UriSource) -> &'static str
         ensures { (local : Text) → result.now ++ local
             ≡ qualified (uri_view (declared self.now) namespace) local }
     {
         if self.is_xml(namespace) { "xml:" } else { "" }
     }
 
-    /// The attribute with the namespace of a name, where this one would be taken without it.
-    pub fn ns_attribute(&self, namespace: Namespace, taken: Namespace) -> Option<Attribute<'_>>
+    /// The attribute with the namespace of a name, where it would take this one without it.
+    pub fn ns_attribute(&self, taken: UriSource, namespace: UriSource) -> Option<Attribute<'_>>
         ensures { optional_view result ≡ ns_attribute (uri_view (declared self.now) taken)
             (uri_view (declared self.now) namespace) }
     {
-        if self.is_given(namespace, taken) {
+        if self.needs_ns(taken, namespace) {
             Some(Attribute::new("ns", self.uri(namespace)))
         } else {
             None
+        }
+    }
+
+    /// The attribute with the library of a datatype, where it would inherit this one without it.
+    pub fn library_attribute(&self, taken: UriSource, library: UriSource) -> Option<Attribute<'_>>
+        ensures { optional_view result ≡ library_attribute (uri_view (declared self.now) taken)
+            (uri_view (declared self.now) library) }
+    {
+        if self.are_same(library, taken) {
+            None
+        } else {
+            Some(Attribute::new("datatypeLibrary", self.uri(library)))
         }
     }
 }
@@ -173,41 +189,57 @@ fn uri_text<'u>(uri: &'u Uri<'_>) -> &'u str
     }
 }
 
-/// Where an element stands: how deep, and which namespace it inherits there.
+/// Where an element stands: how deep, and what it inherits there (RELAX NG 2001, 4.3 and 4.9).
 #[derive(Clone, Copy)]
 pub(crate) struct Place {
     pub level: usize,
-    pub inherited: Namespace,
+    pub namespace: UriSource,
+    pub library: UriSource,
 }
 
 impl Place {
-    /// A place of this level where no namespace is inherited.
+    /// A place of this level in the root.
     pub fn at(level: usize) -> Place
-        ensures { result ≡ record { level = level; inherited = Namespace.Empty } }
+        ensures { result ≡ record {
+          level = level; namespace = UriSource.Empty; library = UriSource.Xsd } }
     {
         Place {
             level,
-            inherited: Namespace::Empty,
+            namespace: UriSource::Empty,
+            library: UriSource::Xsd,
         }
     }
 
-    /// The place in an element that gives no namespace.
+    /// The place in an element that gives neither.
     pub fn inside(self) -> Place
-        ensures { result ≡ record { level = deeper self.level; inherited = self.inherited } }
+        ensures { result ≡ record self { level = deeper self.level } }
     {
         Place {
             level: deeper(self.level),
-            inherited: self.inherited,
+            namespace: self.namespace,
+            library: self.library,
         }
     }
 
     /// The place in an element that gives this namespace.
-    pub fn under(self, namespace: Namespace) -> Place
-        ensures { result ≡ record { level = deeper self.level; inherited = namespace } }
+    pub fn under(self, namespace: UriSource) -> Place
+        ensures { result ≡ record self { level = deeper self.level; namespace = namespace } }
     {
         Place {
             level: deeper(self.level),
-            inherited: namespace,
+            namespace,
+            library: self.library,
+        }
+    }
+
+    /// The place in an element that gives this library.
+    pub fn with_library(self, library: UriSource) -> Place
+        ensures { result ≡ record self { level = deeper self.level; library = library } }
+    {
+        Place {
+            level: deeper(self.level),
+            namespace: self.namespace,
+            library,
         }
     }
 }
@@ -215,54 +247,6 @@ impl Place {
 /// A name with its namespace.
 #[derive(Clone, Copy)]
 pub(crate) struct QualifiedName<'a> {
-    pub namespace: Namespace,
+    pub namespace: UriSource,
     pub local: &'a str,
-}
-
-impl<'a> QualifiedName<'a> {
-    ghost use Rattle.rn_rng.specs.inside.Namespaces.{declared, uri_view};
-
-    /// The tag of an element with this name as its attribute, where this namespace would be taken without `ns`.
-    pub fn tag<'t>(
-        self,
-        namespaces: &'t Namespaces<'_, '_>,
-        element: &'t str,
-        taken: Namespace,
-    ) -> Tag<'t>
-    where
-        'a: 't,
-        ensures element { result.element.now ≡ element.now }
-        ensures attributes { let u = uri_view (declared namespaces.now) self.namespace in
-            attributes_view result ≡ (codes "name", qualified u self.local.now)
-            ∷ ns_attribute (uri_view (declared namespaces.now) taken) u }
-    {
-        Tag {
-            element,
-            first: Some(Attribute {
-                name: "name",
-                prefix: namespaces.prefix_of(self.namespace),
-                value: self.local,
-            }),
-            second: namespaces.ns_attribute(self.namespace, taken),
-        }
-    }
-
-    /// The place in an element with this name as its attribute.
-    pub fn place_in(
-        self,
-        namespaces: &Namespaces<'_, '_>,
-        place: Place,
-        taken: Namespace,
-    ) -> Place
-        ensures level { result.level ≡ deeper place.level }
-        ensures inherited { let ds = declared namespaces.now in uri_view ds result.inherited
-            ≡ inherited_in (uri_view ds taken) (uri_view ds self.namespace)
-            (uri_view ds place.inherited) }
-    {
-        if namespaces.is_given(self.namespace, taken) {
-            place.under(self.namespace)
-        } else {
-            place.inside()
-        }
-    }
 }

@@ -98,7 +98,7 @@ start = string - ("a" | string "b")
     <data type="string" datatypeLibrary="">
       <except>
         <value>a</value>
-        <value type="string" datatypeLibrary="">b</value>
+        <value type="string">b</value>
       </except>
     </data>
   </start>
@@ -119,8 +119,59 @@ start = xsd:string { minLength = "1" } - (xsd:integer - "0")
   </start>
 "#;
 
+// Data in an except inherit the library of the data that they are taken from.
+const LIBRARIES: &str = r#"start = string - xsd:NCName
+=>
+  <start>
+    <data type="string" datatypeLibrary="">
+      <except>
+        <data type="NCName" datatypeLibrary="http://www.w3.org/2001/XMLSchema-datatypes"/>
+      </except>
+    </data>
+  </start>
+--
+datatypes d = "u" start = d:t - ("a" | d:s | xsd:int | token), d:t
+=>
+  <start>
+    <group>
+      <data type="t" datatypeLibrary="u">
+        <except>
+          <value>a</value>
+          <data type="s"/>
+          <data type="int" datatypeLibrary="http://www.w3.org/2001/XMLSchema-datatypes"/>
+          <data type="token" datatypeLibrary=""/>
+        </except>
+      </data>
+      <data type="t" datatypeLibrary="u"/>
+    </group>
+  </start>
+--
+start = xsd:int - (string - (xsd:int - token "1"))
+=>
+  <start>
+    <data type="int">
+      <except>
+        <data type="string" datatypeLibrary="">
+          <except>
+            <data type="int" datatypeLibrary="http://www.w3.org/2001/XMLSchema-datatypes">
+              <except>
+                <value type="token" datatypeLibrary="">1</value>
+              </except>
+            </data>
+          </except>
+        </data>
+      </except>
+    </data>
+  </start>
+"#;
+
 #[test]
-fn data(rt: HostRuntime) {
+fn libraries(rt: HostRuntime) {
+    each_row(&rt, LIBRARIES);
+}
+
+#[test]
+fn data_of_types(rt: HostRuntime) {
     each_row(&rt, DATA);
 }
 

@@ -7,4 +7,4 @@ use Rattle.rn_rng.proofs.class_xml.+class.Given as goal
 
 abbrev pub invariant-write_classes-loop-class : goal.invariant-write_classes-loop-class
 invariant-write_classes-loop-class l = let ds = declared l.namespaces in
-    Writes (flat_map (class_row l.place.level ds (uri_view ds l.own) (uri_view ds l.place.inherited)) (take l.class-index l.classes)) l.initial.writer l.writer
+    Writes (flat_map (class_row l.place.level ds (uri_view ds l.own) (uri_view ds l.place.namespace)) (take l.class-index l.classes)) l.initial.writer l.writer
