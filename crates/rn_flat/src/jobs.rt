@@ -3,7 +3,7 @@ ghost use Rattle.std.specs.Prelude.{◌≡◌, false, map, string_bytes, IfOk};
 ghost use Rattle.rn_flat.specs.FlatFaults.{LeavesOutput};
 ghost use Rattle.rn_flat.specs.ModuleSets.{IsSetOf};
 ghost use Rattle.rn_flat.specs.inside.ToldFiles.{told_of};
-ghost use Rattle.rn_flat.specs.JobResults.{Delivers, IsProduct, IsFlatSchema, IsFlatSchemaOf};
+ghost use Rattle.rn_flat.specs.JobResults.{Delivers, IsProduct, IsFlatSchema, IsFlatSchemaOf, IsSchemaIn};
 
 use crate::compare::check_file;
 use crate::flat_fault::{FlatFault, refusal_fault};
@@ -92,7 +92,10 @@ fn product_text(
 }
 
 /// A schema in one of its syntaxes. `Refused` where it would be too long in the XML syntax.
-fn spelled(alloc: Global, schema: String, syntax: Syntax) -> Result<Vec<u8>, FlatFault> {
+fn spelled(alloc: Global, schema: String, syntax: Syntax) -> Result<Vec<u8>, FlatFault>
+    requires { IsFlatSchema (string_bytes schema) }
+    ensures { IfOk result (λ text. IsSchemaIn syntax text.items) }
+{
     if syntax == Syntax::Compact {
         return Ok(schema.into_bytes());
     }

@@ -1,4 +1,7 @@
 pub mod Writing
 pub mod Escaping
 pub mod Rows
-pub mod Lines
+pub mod WrittenLines
+pub mod Parents
+pub mod XmlWritten
+pub mod WellNamedElements

@@ -6,7 +6,7 @@ ghost use Rattle.rn_rng.specs.Layout.{deeper, element_text, elements_text, end_l
 ghost use Rattle.rn_rng.specs.Translation.{any_attributes, any_element, chosen, class_element, class_elements, inherited_in_any, ns_attribute, qualified};
 ghost use Rattle.rn_rng.specs.inside.Namespaces.{declared, uri_view};
 ghost use Rattle.rn_rng.specs.inside.Names.{IsNameOf, IsNoName};
-ghost use Rattle.rn_rng.specs.inside.Tags.{attributes_view};
+ghost use Rattle.rn_rng.specs.inside.Tags.{attributes_view, optional_view};
 ghost use Rattle.rn_rng.specs.inside.Writes.{Writes};
 
 use crate::lines::Writer;
@@ -67,19 +67,32 @@ fn any_element(any: &AnyName<'_>) -> &'static str
     }
 }
 
+/// The attribute of all names of a namespace.
+fn any_attribute<'t>(
+    namespaces: &'t Namespaces<'_, '_>,
+    any: &AnyName<'_>,
+) -> Option<Attribute<'t>>
+    ensures { optional_view result ≡ any_attributes (declared namespaces.now) (any_view any.now) }
+{
+    match any {
+        AnyName::Any => None,
+        AnyName::AnyOf(prefix) => {
+            let namespace = namespaces.namespace(prefix.name);
+            Some(Attribute::new("ns", namespaces.uri(namespace)))
+        }
+    }
+}
+
 /// The tag of all names, or of all of a namespace.
 fn any_tag<'t>(namespaces: &'t Namespaces<'_, '_>, any: &AnyName<'_>) -> Tag<'t>
     ensures element { result.element.now ≡ any_element (any_view any.now) }
     ensures attributes { attributes_view result ≡ any_attributes (declared namespaces.now)
         (any_view any.now) }
 {
-    match any {
-        AnyName::Any => Tag::bare(any_element(any)),
-        AnyName::AnyOf(prefix) => {
-            let namespace = namespaces.namespace(prefix.name);
-            let ns = Attribute::new("ns", namespaces.uri(namespace));
-            Tag::with(any_element(any), ns)
-        }
+    Tag {
+        element: any_element(any),
+        first: any_attribute(namespaces, any),
+        second: None,
     }
 }
 

@@ -134,8 +134,8 @@ pub(crate) fn write_pattern(
         Pat::NotAllowed => writer.empty_bare(place.level, "notAllowed"),
         Pat::Text => writer.empty_bare(place.level, "text"),
         Pat::Ref(name) => write_ref(writer, place.level, name),
-        Pat::Value(value) => write_value(writer, namespaces, place, value),
-        Pat::Datum(data) => write_data(writer, namespaces, place, data),
+        Pat::Value(value) => write_value(writer, &*namespaces, place, value),
+        Pat::Datum(data) => write_data(writer, &*namespaces, place, data),
         Pat::DatumBut(data, _, except) => write_data_but(writer, namespaces, place, data, except),
         Pat::Repeated(postfix, content) => {
             write_around(writer, namespaces, place, repetition(*postfix), content);
@@ -162,7 +162,7 @@ fn write_element(
     let own = namespaces.default_namespace();
     match one_name(namespaces, own, &named.class) {
         Some(name) => {
-            let inside = open_named(writer, namespaces, place, "element", place.namespace, name);
+            let inside = open_named(writer, &*namespaces, place, "element", place.namespace, name);
             write_members(writer, namespaces, inside, &named.content);
         }
         None => {
@@ -191,11 +191,11 @@ fn write_attribute(
     let own = UriSource::Empty;
     match one_name(namespaces, own, &named.class) {
         Some(name) if matches!(named.content, Pat::Text) => {
-            write_text_attribute(writer, namespaces, place.level, name);
+            write_text_attribute(writer, &*namespaces, place.level, name);
             return;
         }
         Some(name) => {
-            let inside = open_named(writer, namespaces, place, "attribute", own, name);
+            let inside = open_named(writer, &*namespaces, place, "attribute", own, name);
             write_pattern(writer, namespaces, inside, &named.content);
         }
         None => {
@@ -322,7 +322,7 @@ fn write_data_but(
         (datatype_view «data».now.datatype) (params_view «data».now.params.items) 0
         (pattern_view except.now)))) writer.old writer.new }
 {
-    let inside = open_data(writer, namespaces, place, data);
+    let inside = open_data(writer, &*namespaces, place, &*data);
     writer.open_bare(inside.level, "except");
     write_excepted(writer, namespaces, inside.inside(), except);
     writer.close(inside.level, "except");

@@ -1,5 +1,5 @@
 use Rattle.rn_rng.specs.inside.Tags.{attributes_view}
-use Rattle.rn_rng.proofs.Lines.{writes_empty}
+use Rattle.rn_rng.proofs.WrittenLines.{writes_empty}
 use Rattle.rn_rng.proofs.lines.Writer.empty.Goals as goal
 
 pub returns : goal.returns

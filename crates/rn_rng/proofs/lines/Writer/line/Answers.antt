@@ -1,5 +1,5 @@
 use Rattle.rn_rng.specs.inside.Tags.{attributes_view}
-use Rattle.rn_rng.proofs.Lines.{writes_leaf}
+use Rattle.rn_rng.proofs.WrittenLines.{writes_leaf}
 use Rattle.rn_rng.proofs.lines.Writer.line.Goals as goal
 
 pub returns : goal.returns

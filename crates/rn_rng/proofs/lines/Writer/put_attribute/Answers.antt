@@ -1,4 +1,4 @@
-use Rattle.rn_rng.proofs.Lines.{writes_attribute}
+use Rattle.rn_rng.proofs.WrittenLines.{writes_attribute}
 use Rattle.rn_rng.proofs.lines.Writer.put_attribute.Goals as goal
 
 pub returns : goal.returns

@@ -1,4 +1,4 @@
-use Rattle.rn_rng.proofs.Lines.{writes_end}
+use Rattle.rn_rng.proofs.WrittenLines.{writes_end}
 use Rattle.rn_rng.proofs.lines.Writer.put_end.Goals as goal
 
 pub returns : goal.returns

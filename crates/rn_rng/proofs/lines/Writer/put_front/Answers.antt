@@ -1,5 +1,5 @@
 use Rattle.rn_rng.specs.inside.Tags.{optional_view}
-use Rattle.rn_rng.proofs.Lines.{writes_front}
+use Rattle.rn_rng.proofs.WrittenLines.{writes_front}
 use Rattle.rn_rng.proofs.lines.Writer.put_front.Goals as goal
 
 pub returns : goal.returns
