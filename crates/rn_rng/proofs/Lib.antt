@@ -5,3 +5,6 @@ pub mod WrittenLines
 pub mod Parents
 pub mod XmlWritten
 pub mod WellNamedElements
+pub mod Meaning
+pub mod Refusals
+pub mod DeclaredUris

@@ -6,13 +6,14 @@ use Rattle.rn_text.specs.Texts.{Text}
 use Rattle.rn_syntax.specs.declared.tree.Nc.{Nc}
 use Rattle.rn_syntax.specs.declared.tree.Pat.{Pat}
 use Rattle.rn_syntax.specs.declared.tree.Item.{Item}
+use Rattle.rn_syntax.specs.declared.tree.Param.{Param}
 use Rattle.rn_syntax.specs.Tree as t
 use Rattle.rn_syntax.specs.Tree.{Declaration, Pattern, NameClass, classes_of, patterns_of, items_of}
-use Rattle.rn_syntax.specs.View.{class_view, pattern_view, item_view}
+use Rattle.rn_syntax.specs.View.{class_view, pattern_view, item_view, params_view}
 use Rattle.rn_rng.specs.declared.lines.Writer.{Writer}
 use Rattle.rn_rng.specs.Elements.{Attributes, Element, Elements, parent, leaf, no_elements, more_elements, one_element, joined}
 use Rattle.rn_rng.specs.Layout.{deeper, element_text, elements_text, end_line, indent, tag_front}
-use Rattle.rn_rng.specs.Translation.{class_elements, pattern_elements, items_elements, item_elements, unwrapped}
+use Rattle.rn_rng.specs.Translation.{class_elements, pattern_elements, items_elements, item_elements, param_elements, unwrapped}
 use Rattle.rn_rng.specs.inside.Writes.{Writes}
 use Rattle.rn_rng.proofs.Writing.{writes_then, writes_as}
 use Rattle.rn_rng.proofs.Rows.{elements_text-joined}
@@ -76,3 +77,7 @@ no_patterns_left ds around lib (p ∷ ps) e = absurd (let y = eqb-suc-zero (leng
 pub no_items_left : (ds : List Declaration) (xs : List Item) → nat_eq (length xs) 0 ≡ true → items_elements ds (items_of (map item_view xs)) ≡ no_elements
 no_items_left ds [] e = refl
 no_items_left ds (x ∷ xs) e = absurd (let y = eqb-suc-zero (length xs) in cc)
+
+pub params_some : (ps : List Param) → nat_eq (length ps) 0 ≡ false → HasSome (param_elements (params_view ps))
+params_some [] e = absurd cc
+params_some (p ∷ ps) e = tt

@@ -14,7 +14,7 @@ use Rattle.rn_rng.specs.inside.Writes.{Writes}
 use Rattle.rn_rng.proofs.Writing.{writes_then, writes_as}
 
 -- two texts escaped in a row
-writes_both : (f : ℕ → Text) (p t : Text) {a b c : Writer} → Writes (flat_map f p) a b → Writes (flat_map f t) b c → Writes (flat_map f (p ++ t)) a c
+writes_both : {X : Type 0} (f : X → Text) (p t : List X) {a b c : Writer} → Writes (flat_map f p) a b → Writes (flat_map f t) b c → Writes (flat_map f (p ++ t)) a c
 writes_both f p t h k = writes_as (sym (flat_map-append f p t)) (writes_then (flat_map f p) (flat_map f t) h k)
 
 pub writes_attribute : (n p v : Text) {a b c d e f g : Writer} → Writes (32 ∷ []) a b → Writes n b c → Writes (61 ∷ 34 ∷ []) c d

@@ -49,8 +49,11 @@ both f None b = None
 abbrev pub unprefixed : (ns : Text) → Text → Option NameTree
 unprefixed ns l = if has_colon l then None else Some (name ns l)
 
+abbrev pub with_xml : Text → Option NameTree
+with_xml t = if bytes_eq (take 4 t) (codes "xml:") then unprefixed xml_uri (drop 4 t) else None
+
 abbrev pub qualified_name : (ns : Text) → Text → Option NameTree
-qualified_name ns t = if has_colon t then (if bytes_eq (take 4 t) (codes "xml:") then unprefixed xml_uri (drop 4 t) else None) else Some (name ns t)
+qualified_name ns t = if has_colon t then with_xml t else Some (name ns t)
 
 -- ---- name classes (4.9, 4.10, 4.12)
 
@@ -212,8 +215,11 @@ one_alone (more_trees p (more_trees q ps)) = None
 abbrev pub start_component : Method → Tree → List Component
 start_component w p = record { key = start_key; method = w; body = p } ∷ []
 
+abbrev pub definition_of : Text → Method → Tree → List Component
+definition_of x w p = record { key = name_key x; method = w; body = p } ∷ []
+
 abbrev pub definition_component : Text → Method → Tree → List Component
-definition_component x w p = record { key = name_key (trimmed x); method = w; body = p } ∷ []
+definition_component x w p = definition_of (trimmed x) w p
 
 -- an item: its patterns, or the components in it
 abbrev pub components_in : (name : Text) → Attributes → (patterns : Option Trees) → (components : Option (List Component)) → Option (List Component)

@@ -11,7 +11,7 @@ ghost use Rattle.rn_rng.specs.Layout.{element_text, elements_text};
 ghost use Rattle.rn_rng.specs.Translation.{combine, grouped, item_elements, items_elements, pattern_element};
 ghost use Rattle.rn_rng.specs.XmlTexts.{HasNoXml, IsFlat, IsXmlOf, IsXmlOfText, TextHasNoXml};
 ghost use Rattle.rn_rng.specs.inside.Namespaces.{declared};
-ghost use Rattle.rn_rng.specs.inside.Texts.{IsUncut, IsUnsound};
+ghost use Rattle.rn_rng.specs.inside.Texts.{IsOfSyntaxFault, IsOfTextFault, IsUncut, IsUnsound};
 ghost use Rattle.rn_rng.specs.inside.Tags.{optional_view};
 ghost use Rattle.rn_rng.specs.inside.Writes.{Writes};
 
@@ -48,8 +48,17 @@ fn text_tokens<'a>(alloc: Global, text: &'a str) -> Result<Vec<Token<'a>>, XmlFa
 {
     match tokens(alloc, text.as_bytes()) {
         Ok(tokens) => Ok(tokens),
-        Err(TextFault::Memory) => Err(XmlFault::Memory),
-        Err(_) => Err(XmlFault::NoSchema),
+        Err(fault) => Err(text_fault(&fault)),
+    }
+}
+
+/// What a text is refused for that has this fault.
+fn text_fault(fault: &TextFault) -> XmlFault
+    ensures { IsOfTextFault fault.now result }
+{
+    match fault {
+        TextFault::Memory => XmlFault::Memory,
+        TextFault::Encoding { .. } | TextFault::Lexical { .. } => XmlFault::NoSchema,
     }
 }
 
@@ -60,8 +69,17 @@ fn text_module<'a>(alloc: Global, tokens: &[Token<'a>]) -> Result<Module<'a>, Xm
 {
     match parse(alloc, tokens) {
         Ok(module) => Ok(module),
-        Err(SyntaxFault::Memory) => Err(XmlFault::Memory),
-        Err(_) => Err(XmlFault::NoSchema),
+        Err(fault) => Err(syntax_fault(&fault)),
+    }
+}
+
+/// What a text is refused for whose tokens have this fault.
+fn syntax_fault(fault: &SyntaxFault) -> XmlFault
+    ensures { IsOfSyntaxFault fault.now result }
+{
+    match fault {
+        SyntaxFault::Memory => XmlFault::Memory,
+        _ => XmlFault::NoSchema,
     }
 }
 

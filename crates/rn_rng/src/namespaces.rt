@@ -2,7 +2,7 @@
 ghost use Rattle.std.specs.Prelude.{◌≡◌, ◌++◌, [], IfOk, bytes_eq, map, unwrap_or};
 ghost use Rattle.rn_text.specs.Texts.{Text};
 ghost use Rattle.rn_syntax.specs.BindingDeclarations.{bound};
-ghost use Rattle.rn_syntax.specs.Places.{library_of, uri_at, xml_uri};
+ghost use Rattle.rn_syntax.specs.Places.{library_of, uri_at, uri_of, xml_uri};
 ghost use Rattle.rn_syntax.specs.View as seen;
 ghost use Rattle.rn_syntax.specs.View.{datatype_view, declaration_view};
 ghost use Rattle.rn_assemble.specs.Resolve.{default_of, namespace_of, type_library, uri_text};
@@ -52,13 +52,15 @@ impl<'m, 'a> Namespaces<'m, 'a> {
     }
 
     /// The URI of the declaration of a number; none for an inherited namespace.
+    #[tactic(auto, using(crate::proofs::DeclaredUris::uri_here, crate::proofs::DeclaredUris::uri_past))]
     fn declared(&self, number: usize) -> &str
         ensures { result.now ≡ uri_text [] (uri_at (declared self.now) number) }
     {
-        match self.declarations.get(number) {
-            Some(Declaration::Namespace(_, uri) | Declaration::Default(_, _, uri)) => uri_text(uri),
-            Some(Declaration::Datatypes(_, uri)) => uri.as_str(),
-            None => "",
+        let declarations = self.declarations;
+        if number < declarations.len() {
+            declaration_uri(&declarations[number])
+        } else {
+            ""
         }
     }
 
@@ -176,6 +178,17 @@ impl<'m, 'a> Namespaces<'m, 'a> {
         } else {
             Some(Attribute::new("datatypeLibrary", self.uri(library)))
         }
+    }
+}
+
+/// The URI of a declaration.
+fn declaration_uri<'u>(declaration: &'u Declaration<'_>) -> &'u str
+    ensures { result.now ≡ uri_text [] (uri_of (declaration_view declaration.now)) }
+{
+    match declaration {
+        Declaration::Namespace(_, uri) => uri_text(uri),
+        Declaration::Default(_, _, uri) => uri_text(uri),
+        Declaration::Datatypes(_, uri) => uri.as_str(),
     }
 }
 
