@@ -1,5 +1,6 @@
 #!/usr/bin/env python3
-"""Times rnc-merge and rnc-flat on real schemas, beside jing, trang and sha256sum; and rnc-flat beside `rnc-merge print` of the same set.
+"""Times rnc-merge and rnc-flat on real schemas, beside jing, trang and sha256sum; and rnc-flat beside `rnc-merge print` of the same set, and
+`rnc-flat --rng` beside rnc-flat.
 
 bench/peers.py PROGRAM FLAT FOLDER [--old PROGRAM] [--size N] [--rounds N]: PROGRAM is rnc-merge, FLAT is rnc-flat. The packages of the schemas are
 unpacked in FOLDER where they aren't there yet (as tests/real-schemas/compare.py does), and schemas in the XML syntax are put into the compact one by
@@ -96,13 +97,14 @@ def show_closures(words, found, room):
         size, count = bundled(words.flat, [driver.name], driver.parent, bundle)
         commands = {"old": ([words.old], bundle)} if words.old else {}
         commands |= {"print": ([words.program], bundle), "flat": ([words.flat, str(driver)],), "jing": ([*JING, str(driver)],)}
+        commands |= {"xml": ([words.flat, "--rng", str(driver)],)}
         commands |= {"trang": (["trang", str(driver), f"{room}/made.rng"],), "sha256sum": (["sha256sum"], bundle)}
         got = measuring.rounds(commands, words.rounds)
         new, jing = got["print"], got["jing"]
         row(name, count, size // 1000, seconds(got["old"]) if words.old else "", seconds(new), f"{new.times(got['sha256sum']):.1f}",
             seconds(jing), seconds(got["trang"]) + ended(got["trang"]), f"{jing.times(new):.1f}", f"{jing.times(got['flat']):.1f}",
             megabytes(new), megabytes(jing), f"{new.peak / jing.peak:.2f}", ended(new) + ended(jing))
-        rows.append((name, count, size, new, got["flat"]))
+        rows.append((name, count, size, new, got["flat"], got["xml"]))
     return rows
 
 
@@ -112,15 +114,19 @@ def generated(words, room):
         folder, bundle = f"{room}/{shape.__name__}", f"{room}/bundle"
         roots = files(folder, shape(words.size))
         size, count = bundled(words.flat, roots, folder, bundle)
-        got = measuring.rounds({"print": ([words.program], bundle), "flat": ([words.flat, *(f"{folder}/{root}" for root in roots)],)}, words.rounds)
-        yield shape.__name__, count, size, got["print"], got["flat"]
+        paths = [f"{folder}/{root}" for root in roots]
+        commands = {"print": ([words.program], bundle), "flat": ([words.flat, *paths],), "xml": ([words.flat, "--rng", *paths],)}
+        got = measuring.rounds(commands, words.rounds)
+        yield shape.__name__, count, size, got["print"], got["flat"], got["xml"]
 
 
 def show_flat(rows):
-    table("set:", "modules", "KB", "print, s", "rnc-flat, s", "rnc-flat / print", "print, MB", "rnc-flat, MB", "memory, rnc-flat / print", "status:")
-    for name, count, size, printed, flat in rows:
+    table("set:", "modules", "KB", "print, s", "rnc-flat, s", "rnc-flat / print", "print, MB", "rnc-flat, MB", "memory, rnc-flat / print",
+          "--rng, s", "--rng / rnc-flat", "memory, --rng / rnc-flat", "status:")
+    for name, count, size, printed, flat, xml in rows:
         row(name, count, size // 1000, seconds(printed), seconds(flat), f"{flat.times(printed):.2f}",
-            megabytes(printed), megabytes(flat), f"{flat.peak / printed.peak:.2f}", ended(printed) + ended(flat))
+            megabytes(printed), megabytes(flat), f"{flat.peak / printed.peak:.2f}", seconds(xml), f"{xml.times(flat):.2f}", f"{xml.peak / flat.peak:.2f}",
+            ended(printed) + ended(flat) + ended(xml))
 
 
 def main():

@@ -71,6 +71,7 @@ schema='default namespace = ""\nstart = element a { empty }\n'
 hint="\n\nFor more information, try '--help'.\n"
 row version 0 'rnc-flat 1.0\n' '' --version
 row version_short 0 'rnc-flat 1.0\n' '' -V
+if [ "$("$program" --help | grep -c -e '--rng  *Write the schema in the XML syntax')" = 1 ]; then pass; else fail help_rng; fi
 if [ "$("$program" --help | grep -c -e '--check <FILE>' -e '--map <PREFIX=FOLDER>' -e '-o, --output <FILE>' -e '--root <FOLDER>' -e '--bundle' -e '--list' -e '--graph')" -ge 7 ]; then pass; else fail help; fi
 begins no_words 2 'error: the following required arguments were not provided:'
 begins unknown_option 2 "error: unexpected argument '--flat' found" --flat a.rnc
@@ -83,6 +84,12 @@ row check_and_output 2 '' "error: --check can't be given with --output$hint" --c
 row bundle_and_list 2 '' "error: --bundle can't be given with --list$hint" --bundle --list a.rnc
 row bundle_and_graph 2 '' "error: --bundle can't be given with --graph$hint" --bundle --graph a.rnc
 row list_and_graph 2 '' "error: --list can't be given with --graph$hint" --list --graph a.rnc
+row rng_and_bundle 2 '' "error: --rng can't be given with --bundle$hint" --rng --bundle a.rnc
+row rng_and_list 2 '' "error: --rng can't be given with --list$hint" --list --rng a.rnc
+row rng_and_graph 2 '' "error: --rng can't be given with --graph$hint" --rng --graph a.rnc
+row rng_to_compact 2 '' "error: a file that ends in .rng holds the XML syntax, which --rng writes$hint" -o flat.rng a.rnc
+row rng_checked_as_compact 2 '' "error: a file that ends in .rng holds the XML syntax, which --rng writes$hint" --check flat.rng a.rnc
+row rng_for_bundle 2 '' "error: a file that ends in .rng holds the XML syntax, which --rng writes$hint" --bundle -o flat.rng a.rnc
 row map_without_folder 2 '' "error: the value of --map must be PREFIX=FOLDER$hint" --map http://x/ a.rnc
 row map_without_prefix 2 '' "error: the value of --map must be PREFIX=FOLDER$hint" --map =x a.rnc
 row map_to_nothing 2 '' "error: the value of --map must be PREFIX=FOLDER$hint" --map http://x/= a.rnc
@@ -189,6 +196,41 @@ printf 'default namespace = ""\nstart = element \303\250 { empty }\n' >grave.rnc
 row check_character 1 '' 'grave.rnc:2:17: error: this is not the schema, which has here: start = element \303\251 { empty }\n    start = element \303\250 { empty }\n                    ^\n' --check grave.rnc acute.rnc
 row check_missing 3 '' 'rnc-flat: error: none.rnc: no such file\n' --check none.rnc a.rnc
 alone check_writes_nothing a.rnc flat.rnc other.rnc short.rnc long.rnc empty.rnc dos.rnc name.rnc far.rnc acute.rnc grave.rnc
+
+# ---- the XML syntax
+room xml
+head='<?xml version="1.0" encoding="UTF-8"?>\n<grammar xmlns="http://relaxng.org/ns/structure/1.0" datatypeLibrary="http://www.w3.org/2001/XMLSchema-datatypes">\n'
+printf 'namespace p = "u"\ninclude "b.rnc"\nstart = element p:a { element b { b }? }\n' >a.rnc
+printf 'b = attribute c { xsd:int }, "<&>"\n' >b.rnc
+xml="$head  <start>\n    <element name=\"a\" ns=\"u\">\n      <optional>\n        <element name=\"b\" ns=\"\">\n          <ref name=\"b\"/>\n        </element>\n      </optional>\n    </element>\n  </start>\n  <define name=\"b\">\n    <attribute name=\"c\">\n      <data type=\"int\"/>\n    </attribute>\n    <value>&lt;&amp;&gt;</value>\n  </define>\n</grammar>\n"
+row rng 0 "$xml" '' --rng a.rnc
+row rng_output 0 '' '' --rng -o flat.rng a.rnc
+holds rng_output_bytes flat.rng "$xml"
+row rng_check 0 '' '' --rng --check flat.rng a.rnc
+row rng_any_ending 0 '' '' --rng -o flat.rng.part a.rnc
+same rng_part flat.rng flat.rng.part
+"$program" a.rnc >flat.rnc
+input=flat.rnc
+row rng_input 0 "$xml" '' --rng -
+input=/dev/null
+row rng_again 0 "$xml" '' --rng flat.rnc
+sed 's/int/integer/' flat.rng >other.rng
+row rng_check_other 1 '' 'other.rng:14:22: error: this is not the schema, which has here:       <data type="int"/>\n          <data type="integer"/>\n                         ^\n' --rng --check other.rng a.rnc
+row rng_check_compact 1 '' 'flat.rnc:1:1: error: this is not the schema, which has here: <?xml version="1.0" encoding="UTF-8"?>\n    default namespace = ""\n    ^\n' --rng --check flat.rnc a.rnc
+row rng_missing 3 '' 'rnc-flat: error: none.rnc: no such file\n' --rng none.rnc
+printf 'start = x\n' >undefined.rnc
+row rng_refused 1 '' 'undefined.rnc:1:9: error: `x` is not defined\n    start = x\n            ^\n' --rng undefined.rnc
+{
+    printf 'namespace p = "'
+    head -c 1000000 /dev/zero | tr '\0' u
+    printf '"\nstart = empty\n'
+    for number in $(seq 70); do
+        printf '| element p:x%d { empty }\n' "$number"
+    done
+} >long.rnc
+row rng_long 1 '' 'rnc-flat: error: the flat schema would have more than 67,108,864 bytes in the XML syntax\n' --rng long.rnc
+row rng_long_output 1 '' 'rnc-flat: error: the flat schema would have more than 67,108,864 bytes in the XML syntax\n' --rng -o long.rng long.rnc
+alone rng_writes_no_more a.rnc b.rnc flat.rng flat.rng.part flat.rnc other.rng undefined.rnc long.rnc
 
 # ---- maps
 room maps

@@ -1,8 +1,10 @@
 import com.thaiopensource.util.PropertyMapBuilder;
 import com.thaiopensource.validate.ValidateProperty;
+import com.thaiopensource.validate.SchemaReader;
 import com.thaiopensource.validate.ValidationDriver;
 import com.thaiopensource.validate.prop.rng.RngProperty;
 import com.thaiopensource.validate.rng.CompactSchemaReader;
+import com.thaiopensource.validate.rng.SAXSchemaReader;
 import java.io.BufferedReader;
 import java.io.File;
 import java.io.InputStreamReader;
@@ -15,7 +17,7 @@ import org.xml.sax.ErrorHandler;
 import org.xml.sax.SAXParseException;
 
 /**
- * Reads paths of schemas in the compact syntax, one a line. Writes a line for each: "good" and, for each document *.xml beside the schema in the
+ * Reads paths of schemas in the compact syntax, or in the XML syntax where they end in .rng, one a line. Writes a line for each: "good" and, for each document *.xml beside the schema in the
  * order of names, 1 if it is valid and 0 if it isn't; or "bad" and the errors, each with its line and column. Where a path is followed by a tab and
  * a folder, the documents are in that one, and the simplified form of a good schema is written beside it, to its path and ".simplified".
  */
@@ -39,7 +41,8 @@ public class Jing {
     Errors errors = new Errors();
     PropertyMapBuilder properties = new PropertyMapBuilder();
     properties.put(ValidateProperty.ERROR_HANDLER, errors);
-    ValidationDriver driver = new ValidationDriver(properties.toPropertyMap(), CompactSchemaReader.getInstance());
+    SchemaReader reader = path.endsWith(".rng") ? SAXSchemaReader.getInstance() : CompactSchemaReader.getInstance();
+    ValidationDriver driver = new ValidationDriver(properties.toPropertyMap(), reader);
     if (!driver.loadSchema(ValidationDriver.fileInputSource(schema))) {
       return "bad\t" + String.join("\t", errors.texts);
     }

@@ -11,6 +11,8 @@ compare.py PROGRAM files COUNT [SEED]: trees of two to six files in folders, wit
 inherit, nested grammars and parents. Where jing takes the main file, the program must print it, jing must take what is printed, the simplified forms
 that jing makes of both must be the same up to names (simplified.py), both must be valid for the same documents, and what is printed must be printed
 again. Where jing refuses the tree by another rule than section 7, the program must refuse it. The tree of a seed is the same whatever COUNT is.
+Each printed text is written in the XML syntax too (--rng): where jing takes the one it must take the other, with the same simplified form byte for
+byte and the same valid documents, and what trang makes of the XML must be printed as the same text. What lxml says of the documents is counted.
 
 Needs Debian's jing and a Java compiler. Prints how often each pair of answers came, and then a line for each difference.
 Differences that are known, and left out or told apart: the program takes whatever annotations hold, characters of names that XML's Fifth Edition
@@ -23,6 +25,7 @@ or to more than 1,024 modules.
 """
 import collections
 import os
+import pathlib
 import random
 import re
 import shutil
@@ -37,6 +40,7 @@ import schema
 import simplified
 import trees
 import writing
+import xml_syntax
 
 PARTS = re.compile(r'"""(?:[^"]|"{1,2}(?!"))*"""|"[^"\n]*"|\'[^\'\n]*\'|#[^\n]*|\\?[A-Za-z_][\w.\-]*(?::\*|:[A-Za-z_][\w.\-]*)?|>>|\|=|&=|\s+|.', re.S)
 TOKENS = [*"{}()[]=,|&?*+-~:\\1", "|=", "&=", ">>", "x", "p:a", "p:*", "u:x", "xsd:int", "xsd:string", "xml:lang", "a:", "a.b", "-a", "x {", "div {", "\\start", "\\x"]
@@ -159,16 +163,18 @@ class Told:
             os.makedirs(os.path.dirname(f"{folder}/files/{path}"), exist_ok=True)
             write(f"{folder}/files/{path}", text)
         self.folder, self.main, self.printed = folder, f"{folder}/files/{tree.paths[0]}", f"{folder}/printed.rnc"
+        self.xml = None
         printed, self.refusal = program.run(self.main)
         self.stays = True
         if not self.refusal:
             write_bytes(self.printed, printed)
             self.stays = program.run(self.printed)[0] == printed
+            self.xml = xml_syntax.written(program.path, self.printed)
             if not self.damage:
                 write_documents(folder, documents(rng, trees.TreeSampler(rng, tree)))
 
     def paths(self):
-        return [f"{path}\t{self.folder}" for path in ([self.main] if self.refusal else [self.main, self.printed])]
+        return [f"{path}\t{self.folder}" for path in ([self.main] if self.refusal else [self.main, self.printed, self.xml])]
 
     def kind(self):
         """The first line of the refusal without its place and names, or `printed`."""
@@ -190,7 +196,22 @@ class Told:
         if not takes or rest != again:
             return f"printed; jing: {rest[:80]}; of the printed text: {again[:120]}"
         forms = [read(f"{path}.simplified") for path in (self.main, self.printed)]
-        return "" if simplified.is_same(*forms) else "the simplified forms differ"
+        if not simplified.is_same(*forms):
+            return "the simplified forms differ"
+        takes, of_xml = answers[self.paths()[2]]
+        if not takes or rest != of_xml:
+            return f"printed; jing: {rest[:80]}; of the XML: {of_xml[:120]}"
+        return "" if read(f"{self.xml}.simplified") == forms[1] else "the simplified form of the XML differs"
+
+    def of_lxml(self, answers):
+        """What lxml says of the schema in the XML syntax, beside jing."""
+        is_good, rest = answers[self.paths()[0]]
+        if self.refusal or not is_good:
+            return []
+        said, why = xml_syntax.verdicts(self.xml, sorted(pathlib.Path(self.folder).glob("*.xml")))
+        if said is None:
+            return [f"lxml: {why}"] if why else []
+        return [f"lxml: {'as jing' if one == other else 'valid for jing alone' if other == '1' else 'not valid for jing alone'}" for one, other in zip(said, rest)]
 
 
 def read(path):
@@ -201,8 +222,10 @@ def read(path):
 def compare_files(program, seeds, room):
     told = [Told(program, f"{room}/{seed}", seed) for seed in seeds]
     answers = jing.answers(room, [path for it in told for path in it.paths()])
-    tally, differences = collections.Counter(), []
+    others = xml_syntax.not_the_same(program.path, room, [it.xml for it in told if it.xml])
+    tally, differences = collections.Counter(), [f"{path}: {why}" for path, why in others.items()]
     for it in told:
+        tally.update(it.of_lxml(answers))
         is_good, rest = answers[it.paths()[0]]
         difference = it.difference(answers)
         if difference:

@@ -6,7 +6,9 @@ rnc-flat on each driver: a file that includes or refers to others, and that no o
 one first (trang), where trang takes them. With --all every file is run; with --only those whose path holds WORD.
 
 Where jing takes the driver, the simplified forms that it makes (-i -c -s) of the driver and of what is printed are compared up to names
-(tests/against-jing/simplified.py), and what is printed must be printed again. Prints a line for each driver, with what came of it and why, and counts.
+(tests/against-jing/simplified.py), and what is printed must be printed again. Each printed schema is written in the XML syntax too (--rng): jing must
+make the same form of it, byte for byte, and trang a text that is printed as the same. Prints a line for each driver, with what came of it and why, a
+line for each XML that xmllint doesn't load, and counts.
 
 Needs Debian's jing and trang, and a Java compiler. This is no part of the gate.
 """
@@ -21,6 +23,7 @@ sys.path.insert(0, str(pathlib.Path(__file__).resolve().parent.parent / "against
 from jing import answers  # noqa: E402
 from packages import PACKAGES, chosen, fetch, open_archives, translated  # noqa: E402
 from simplified import is_same  # noqa: E402
+from xml_syntax import not_the_same, written, xmllint  # noqa: E402
 
 # The longest time for one schema.
 SECONDS = 180
@@ -55,7 +58,12 @@ def compare(program, room, paths):
     printed = {path: pathlib.Path(room) / f"{at}.rnc" for at, path in enumerate(paths)}
     refused = {path: flat(program, path, printed[path]) for path in paths}
     again = forms(room, [printed[path] for path in paths if not refused[path]])
+    xml = {path: written(program, printed[path]) for path in paths if not refused[path]}
+    of_xml = forms(room, xml.values())
+    others = not_the_same(program, room, xml.values())
     for path in paths:
+        if path in xml:
+            yield from of_xml_syntax(room, path, again[printed[path]], of_xml[xml[path]], xml[path], others)
         form, errors = originals[path]
         if form is None:
             first = errors.split("\t")[0][:160]
@@ -64,6 +72,19 @@ def compare(program, room, paths):
             yield path, "not printed", refused[path]
         else:
             yield path, *compared(program, room, form, printed[path], *again[printed[path]])
+
+
+def of_xml_syntax(room, path, of_text, of_xml, xml, others):
+    """What comes of a printed schema in the XML syntax."""
+    if of_text[0] != of_xml[0]:
+        yield path, "XML that jing takes otherwise", of_xml[1][:160]
+    elif xml in others:
+        yield path, "XML that is printed otherwise", others[xml]
+    else:
+        yield path, "XML as the text", ""
+    why = xmllint(xml, room)
+    if why:
+        yield path, "XML not loaded by xmllint", why
 
 
 def compared(program, room, form, printed, form_again, errors):

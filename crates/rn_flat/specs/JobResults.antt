@@ -3,9 +3,12 @@ use Rattle.std.specs.Prelude.{ℕ, List, Option, Some, None, Result, Ok, Err, st
 use Rattle.std.specs.Io.KnownBytes.{Appends}
 use Rattle.rn_simplify.specs.Verdict.{prints, IsVerdict}
 use Rattle.rn_lift.specs.declared.lifted.LiftedModule.{LiftedModule}
+use Rattle.rn_rng.specs.XmlTexts.{IsXmlOfText}
 use Rattle.rn_flat.specs.declared.flat_fault.FlatFault.{FlatFault}
 use Rattle.rn_flat.specs.declared.words.Product.{Product}
 use Rattle.rn_flat.specs.declared.words.Product.TheVariants.{Schema, Bundle, List as Listing, Graph}
+use Rattle.rn_flat.specs.declared.words.Syntax.{Syntax}
+use Rattle.rn_flat.specs.declared.words.Syntax.TheVariants.{Compact, Xml}
 use Rattle.rn_flat.specs.declared.words.Task.{Task}
 use Rattle.rn_flat.specs.declared.words.Task.TheVariants.{Write, Check}
 use Rattle.rn_flat.specs.ModuleSets.{set_of_modules}
@@ -19,9 +22,20 @@ pub record IsFlatSchema (text : List ℕ) : Type 0 where
   pub modules : List LiftedModule
   pub is_schema : IsFlatSchemaOf modules text
 
--- a product that is the schema is the text of one
+-- the XML of the schema of a set of modules
+pub record IsFlatXml (xml : List ℕ) : Type 0 where
+  pub schema : List ℕ
+  pub is_schema : IsFlatSchema schema
+  pub is_xml : IsXmlOfText schema xml
+
+-- the schema of a set of modules, in a syntax
+abbrev pub IsSchemaIn : Syntax → List ℕ → Type 0
+IsSchemaIn Compact text = IsFlatSchema text
+IsSchemaIn Xml text = IsFlatXml text
+
+-- a product that is the schema is one in its syntax
 abbrev pub IsProduct : Product → List ℕ → Type 0
-IsProduct Schema text = IsFlatSchema text
+IsProduct (Schema syntax) text = IsSchemaIn syntax text
 IsProduct Bundle text = Unit {0}
 IsProduct Listing text = Unit {0}
 IsProduct Graph text = Unit {0}
@@ -30,5 +44,5 @@ IsProduct Graph text = Unit {0}
 abbrev pub Delivers : {T : Type 0} → Task → Option (List ℕ) → Option (List ℕ) → (List ℕ → List ℕ → Type 0) → (List ℕ → List ℕ → Type 0) → Result T FlatFault → Type 0
 Delivers (Write product None) old new holds gives (Ok x) = (text : List ℕ) × IsProduct product text × Appends old new text
 Delivers (Write product (Some path)) old new holds gives (Ok x) = (text : List ℕ) × IsProduct product text × holds (string_bytes path) text
-Delivers (Check file) old new holds gives (Ok x) = (text : List ℕ) × IsFlatSchema text × gives (string_bytes file) text
+Delivers (Check file syntax) old new holds gives (Ok x) = (text : List ℕ) × IsSchemaIn syntax text × gives (string_bytes file) text
 Delivers task old new holds gives (Err fault) = Unit {0}

@@ -1,10 +1,9 @@
 // The work of the program: files are read and lifted, and what is asked for is made, and written or compared.
-ghost use Rattle.std.specs.Prelude.{◌≡◌, false, map, IfOk};
-ghost use Rattle.rn_simplify.specs.Verdict.{prints, IsVerdict};
+ghost use Rattle.std.specs.Prelude.{◌≡◌, false, map, string_bytes, IfOk};
 ghost use Rattle.rn_flat.specs.FlatFaults.{LeavesOutput};
 ghost use Rattle.rn_flat.specs.ModuleSets.{IsSetOf};
 ghost use Rattle.rn_flat.specs.inside.ToldFiles.{told_of};
-ghost use Rattle.rn_flat.specs.JobResults.{Delivers, IsProduct, IsFlatSchema, IsFlatSchemaOf};
+ghost use Rattle.rn_flat.specs.JobResults.{Delivers, IsProduct, IsFlatSchema, IsFlatSchemaOf, IsSchemaIn};
 
 use crate::compare::check_file;
 use crate::flat_fault::{FlatFault, refusal_fault};
@@ -12,15 +11,20 @@ use crate::module_set::set_of;
 use crate::outputs::{Outputs, write_file, write_standard};
 use crate::products::{graph_text, list_text};
 use crate::reading_faults::reading_fault;
-use crate::words::{Job, Product, Task};
+use crate::words::{Job, Product, Syntax, Task};
 use rn_assemble::Refusal;
 use rn_files::{Asked, Files, SourceFile, Sources, read_sources};
 use rn_lift::{Lifted, lift};
 use rn_merge::{Sink, merge};
 use rn_modset::{AddFault, ModuleSet, write_bundle};
 use rn_plan::{LiftFaultKind, Lifting};
+use rn_rng::{XmlFault, schema_xml};
 use rn_tell::{Colours, Messages, lift_messages, refusal_messages, set_message, source_pages};
 use std::alloc::{AllocError, Global};
+
+/// What is said of a schema that has more than [`rn_rng::MAX_XML`] bytes in the XML syntax.
+const TOO_LARGE_XML: &str =
+    "rnc-flat: error: the flat schema would have more than 67,108,864 bytes in the XML syntax\n";
 
 /// Reads the files of a job with all that they reach, makes what is asked for, and writes or compares it. Nothing is
 /// written where there is a fault. `Refused` where the files are no schema, or the file that is checked is not the
@@ -60,8 +64,8 @@ pub fn perform<F: Files, S: Outputs, W: Sink>(
                 None => write_standard(alloc, out, text.as_slice()),
             }
         }
-        Task::Check { file } => {
-            let text = product_text(alloc, sources, Product::Schema, colours)?;
+        Task::Check { file, syntax } => {
+            let text = product_text(alloc, sources, Product::Schema(*syntax), colours)?;
             check_file(alloc, files, file.as_str(), text.as_slice(), colours)
         }
     }
@@ -77,10 +81,30 @@ fn product_text(
     ensures { IfOk result (λ text. IsProduct product text.items) }
 {
     match product {
-        Product::Schema => schema_text(alloc, sources, colours),
+        Product::Schema(syntax) => {
+            let schema = schema_text(alloc, sources, colours)?;
+            spelled(alloc, schema, syntax)
+        }
         Product::Bundle => bundle(alloc, &sources, colours),
         Product::List => list(alloc, &sources, colours),
         Product::Graph => Ok(graph_text(alloc, sources.files.as_slice())?.into_bytes()),
+    }
+}
+
+/// A schema in one of its syntaxes. `Refused` where it would be too long in the XML syntax.
+fn spelled(alloc: Global, schema: String, syntax: Syntax) -> Result<Vec<u8>, FlatFault>
+    requires { IsFlatSchema (string_bytes schema) }
+    ensures { IfOk result (λ text. IsSchemaIn syntax text.items) }
+{
+    if syntax == Syntax::Compact {
+        return Ok(schema.into_bytes());
+    }
+    match schema_xml(alloc, schema.as_str()) {
+        Ok(xml) => Ok(xml.into_bytes()),
+        Err(XmlFault::Memory) => Err(FlatFault::Memory),
+        Err(XmlFault::TooLarge | XmlFault::NoSchema) => {
+            Err(FlatFault::Refused(String::from_str(alloc, TOO_LARGE_XML)?))
+        }
     }
 }
 
@@ -91,8 +115,8 @@ fn list(alloc: Global, sources: &Sources, colours: Colours) -> Result<Vec<u8>, F
 }
 
 /// The schema, made of the files.
-fn schema_text(alloc: Global, sources: Sources, colours: Colours) -> Result<Vec<u8>, FlatFault>
-    ensures { IfOk result (λ text. IsFlatSchema text.items) }
+fn schema_text(alloc: Global, sources: Sources, colours: Colours) -> Result<String, FlatFault>
+    ensures { IfOk result (λ text. IsFlatSchema (string_bytes text)) }
 {
     let lifted = lift_files(alloc, &sources, colours)?;
     let mut files = sources.files;
@@ -183,26 +207,16 @@ fn schema(
     lifted: &Lifted,
     files: &[SourceFile],
     colours: Colours,
-) -> Result<Vec<u8>, FlatFault>
-    ensures { IfOk result (λ text. IsFlatSchemaOf lifted.now.modules.items text.items) }
+) -> Result<String, FlatFault>
+    ensures { IfOk result (λ text. IsFlatSchemaOf lifted.now.modules.items (string_bytes text)) }
 {
     let set = module_set(alloc, lifted, files, colours)?;
-    match merged_bytes(alloc, &set) {
+    match merge(alloc, &set) {
         Ok(text) => Ok(text),
         Err(Refusal::Memory) => Err(FlatFault::Memory),
         Err(refusal) => {
             let told = refusal_messages(alloc, files, lifted, &refusal)?;
             Err(fault_with_messages(alloc, files, &told, colours)?)
         }
-    }
-}
-
-/// The bytes of the schema of a set.
-fn merged_bytes(alloc: Global, set: &ModuleSet) -> Result<Vec<u8>, Refusal>
-    ensures { IfOk result (λ text. IsVerdict set.now (prints text.items)) }
-{
-    match merge(alloc, set) {
-        Ok(text) => Ok(text.into_bytes()),
-        Err(refusal) => Err(refusal),
     }
 }

@@ -18,4 +18,4 @@ pub use flat_fault::{FlatFault, fault_lines, status};
 pub use jobs::perform;
 pub use outputs::Outputs;
 pub use rn_tell::Colours;
-pub use words::{Job, Product, Task, Words, WordsFault, read_words};
+pub use words::{Job, Product, Syntax, Task, Words, WordsFault, read_words};

@@ -22,11 +22,20 @@ const ABOUT: &str =
 const AFTER: &str =
     "A FILE of - is standard input. Status: 0 done; 1 the schema is refused, or differs from the file of --check; 2 these words can't be understood; 3 a file, the output or memory.";
 
+/// How a schema is spelled.
+#[derive(Clone, Copy, Debug, PartialEq, Eq)]
+pub enum Syntax {
+    /// In the compact syntax.
+    Compact,
+    /// In the XML syntax.
+    Xml,
+}
+
 /// What is made of the files.
 #[derive(Clone, Copy, Debug, PartialEq, Eq)]
 pub enum Product {
-    /// The flat schema.
-    Schema,
+    /// The flat schema, in one of its syntaxes.
+    Schema(Syntax),
     /// The bundle of the modules, which rnc-merge reads.
     Bundle,
     /// A line for each module, with its file.
@@ -49,6 +58,8 @@ pub enum Task {
     Check {
         /// The path of the file.
         file: String,
+        /// The syntax of the schema that the file is to hold.
+        syntax: Syntax,
     },
 }
 
@@ -106,8 +117,8 @@ impl From<AllocError> for WordsFault {
 }
 
 /// What the words behind the program's name ask for. No file is read. `Usage` where an option is unknown, lacks its
-/// value, is given twice or contradicts another, where no file is named, where a map is not `PREFIX=FOLDER`, or where
-/// standard input would be read twice.
+/// value, is given twice or contradicts another, where no file is named, where a map is not `PREFIX=FOLDER`, where
+/// standard input would be read twice, or where a file for the compact syntax ends in `.rng`.
 pub fn read_words(alloc: Global, words: &[String]) -> Result<Words, WordsFault> {
     match program(alloc)?.try_get_matches_from(words) {
         Ok(matches) => asked_words(alloc, &matches),
@@ -149,6 +160,7 @@ fn program<'a>(alloc: Global) -> Result<Command<'a>, AllocError> {
         ))?
         .arg(flag(alloc, "list", "Write each module with its file"))?;
     let program = program
+        .arg(flag(alloc, "rng", "Write the schema in the XML syntax"))?
         .arg(flag(
             alloc,
             "graph",
@@ -223,7 +235,7 @@ fn is_named_twice(files: &[String], task: &Task) -> bool {
         .filter(|file| file.as_str() == STANDARD_INPUT)
         .count();
     match task {
-        Task::Check { file } if file.as_str() == STANDARD_INPUT => named > 0,
+        Task::Check { file, .. } if file.as_str() == STANDARD_INPUT => named > 0,
         _ => named > 1,
     }
 }
@@ -231,6 +243,12 @@ fn is_named_twice(files: &[String], task: &Task) -> bool {
 /// What is done. Of the products one at most may be asked for, and none with `--check`.
 fn asked_task(alloc: Global, words: &ArgMatches<'_>) -> Result<Task, WordsFault> {
     let product = asked_product(alloc, words)?;
+    if product != Product::Schema(Syntax::Xml) && names_xml(words) {
+        return usage(
+            alloc,
+            "a file that ends in .rng holds the XML syntax, which --rng writes",
+        );
+    }
     let output = copy(alloc, words.get_str("output"))?;
     let Some(file) = copy(alloc, words.get_str("check"))? else {
         return Ok(Task::Write {
@@ -242,20 +260,38 @@ fn asked_task(alloc: Global, words: &ArgMatches<'_>) -> Result<Task, WordsFault>
         return contradiction(alloc, "check", "output");
     }
     match product {
-        Product::Schema => Ok(Task::Check { file }),
+        Product::Schema(syntax) => Ok(Task::Check { file, syntax }),
         Product::Bundle => contradiction(alloc, "check", "bundle"),
         Product::List => contradiction(alloc, "check", "list"),
         Product::Graph => contradiction(alloc, "check", "graph"),
     }
 }
 
+/// Whether the file that is written or checked is named as one in the XML syntax.
+fn names_xml(words: &ArgMatches<'_>) -> bool {
+    is_xml_name(words.get_str("output")) || is_xml_name(words.get_str("check"))
+}
+
+/// Whether there is a name, and it ends as those of schemas in the XML syntax do.
+fn is_xml_name(name: Option<&str>) -> bool {
+    match name {
+        Some(name) => name.ends_with(".rng"),
+        None => false,
+    }
+}
+
 /// The one product that is asked for.
 fn asked_product(alloc: Global, words: &ArgMatches<'_>) -> Result<Product, WordsFault> {
+    let rng = words.get_flag("rng");
     let bundle = words.get_flag("bundle");
     let list = words.get_flag("list");
     let graph = words.get_flag("graph");
     match (bundle, list, graph) {
-        (false, false, false) => Ok(Product::Schema),
+        (false, false, false) if rng => Ok(Product::Schema(Syntax::Xml)),
+        (false, false, false) => Ok(Product::Schema(Syntax::Compact)),
+        (true, _, _) if rng => contradiction(alloc, "rng", "bundle"),
+        (_, true, _) if rng => contradiction(alloc, "rng", "list"),
+        (_, _, true) if rng => contradiction(alloc, "rng", "graph"),
         (true, false, false) => Ok(Product::Bundle),
         (false, true, false) => Ok(Product::List),
         (false, false, true) => Ok(Product::Graph),

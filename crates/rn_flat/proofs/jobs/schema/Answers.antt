@@ -1,6 +1,7 @@
 use Rattle.std.proofs.Common.{subst}
+use Rattle.std.specs.Prelude.{string_bytes}
 use Rattle.rn_simplify.specs.Verdict.{prints, IsVerdict}
 use Rattle.rn_flat.proofs.jobs.schema.Goals as goal
 
 pub returns-in-Ok : goal.returns-in-Ok
-returns-in-Ok c = subst (λ s. IsVerdict s (prints c.in-Ok.text.items)) c.in_ok-set.ensures c.in-Ok.ensures
+returns-in-Ok c = subst (λ s. IsVerdict s (prints (string_bytes c.in-Ok.text))) c.in_ok-set.ensures c.in-Ok.ensures.verdict

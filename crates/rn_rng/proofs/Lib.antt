@@ -1,0 +1,10 @@
+pub mod Writing
+pub mod Escaping
+pub mod Rows
+pub mod WrittenLines
+pub mod Parents
+pub mod XmlWritten
+pub mod WellNamedElements
+pub mod Meaning
+pub mod Refusals
+pub mod DeclaredUris

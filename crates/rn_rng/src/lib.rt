@@ -1,0 +1,20 @@
+//! The XML syntax of RELAX NG: a module of the compact syntax as one canonical XML text.
+//!
+//! [`module_xml`] writes the XML that the compact syntax's specification says a module stands for, in one spelling;
+//! [`schema_xml`] does so for the text of a module, such as a printed schema.
+#![tactic(auto)]
+
+mod class_xml;
+mod data_xml;
+mod escapes;
+pub mod grammar_xml;
+pub mod laws;
+mod lines;
+mod namespaces;
+mod pattern_xml;
+mod tag;
+pub mod xml_fault;
+
+pub use grammar_xml::{module_xml, schema_xml};
+pub use lines::MAX_XML;
+pub use xml_fault::XmlFault;

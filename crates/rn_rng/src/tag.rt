@@ -1,0 +1,58 @@
+// The name and the attributes of an element.
+ghost use Rattle.std.specs.Prelude.{◌≡◌, ◌∷◌, []};
+ghost use Rattle.rn_rng.specs.inside.Tags.{attribute_view, attributes_view};
+
+/// An attribute.
+#[derive(Clone, Copy)]
+pub(crate) struct Attribute<'a> {
+    pub name: &'a str,
+    /// What stands before the value: a prefix and its colon, or nothing.
+    pub prefix: &'a str,
+    pub value: &'a str,
+}
+
+impl<'a> Attribute<'a> {
+    pub fn new(name: &'a str, value: &'a str) -> Attribute<'a>
+        ensures { attribute_view result ≡ (name.now, value.now) }
+    {
+        Attribute {
+            name,
+            prefix: "",
+            value,
+        }
+    }
+}
+
+/// The name of an element, and its attributes in their order.
+#[derive(Clone, Copy)]
+pub(crate) struct Tag<'a> {
+    pub element: &'a str,
+    pub first: Option<Attribute<'a>>,
+    pub second: Option<Attribute<'a>>,
+}
+
+impl<'a> Tag<'a> {
+    /// An element without attributes.
+    pub fn bare(element: &'a str) -> Tag<'a>
+        ensures element { result.element.now ≡ element.now }
+        ensures attributes { attributes_view result ≡ [] }
+    {
+        Tag {
+            element,
+            first: None,
+            second: None,
+        }
+    }
+
+    /// An element with one attribute.
+    pub fn with(element: &'a str, attribute: Attribute<'a>) -> Tag<'a>
+        ensures element { result.element.now ≡ element.now }
+        ensures attributes { attributes_view result ≡ attribute_view attribute.entry ∷ [] }
+    {
+        Tag {
+            element,
+            first: Some(attribute),
+            second: None,
+        }
+    }
+}

@@ -1,0 +1,53 @@
+// Texts that are no flat schema, texts that would be too long, and lines that are indented no further.
+use rn_rng::{MAX_XML, XmlFault, schema_xml};
+use std::alloc::{AllocError, Global};
+use std::process::Abort;
+
+/// Whether a text is refused as no flat schema.
+fn is_no_schema(rt: &(impl Abort + AllocGlobal), text: &str) -> bool {
+    matches!(schema_xml(rt.alloc(), text), Err(XmlFault::NoSchema))
+}
+
+#[test]
+fn no_schemas(rt: HostRuntime) {
+    assert!(rt; is_no_schema(&rt, "start = "));
+    assert!(rt; is_no_schema(&rt, "start = ~ a"));
+    assert!(rt; is_no_schema(&rt, "start = p:a"));
+    assert!(rt; is_no_schema(&rt, "include \"a.rnc\""));
+    assert!(rt; is_no_schema(&rt, "div { include \"a.rnc\" { start = a } } start = b"));
+}
+
+/// A start with an alternative for each time that a URI of this length stands in the XML.
+fn long_uris(alloc: Global, length: usize, count: usize) -> Result<String, AllocError> {
+    let uri = "u".repeat(alloc, length)?;
+    let others = "| element p:* { empty } ".repeat(alloc, count)?;
+    format!(in alloc; "namespace p = \"{uri}\" start = empty {others}")
+}
+
+#[test]
+fn too_large(rt: HostRuntime) -> Result<(), AllocError> {
+    let text = long_uris(rt.alloc(), 1_000_000, 67)?;
+    let fits = schema_xml(rt.alloc(), text.as_str()).expect(&rt, "no XML");
+    assert!(rt; fits.len() <= MAX_XML && fits.len() > 67_000_000);
+    let text = long_uris(rt.alloc(), 1_000_000, 68)?;
+    assert!(rt; matches!(schema_xml(rt.alloc(), text.as_str()), Err(XmlFault::TooLarge)));
+    let text = long_uris(rt.alloc(), 1_000_000, 100_000)?;
+    assert!(rt; matches!(schema_xml(rt.alloc(), text.as_str()), Err(XmlFault::TooLarge)));
+    Ok(())
+}
+
+// At most 64 spaces stand before a tag.
+#[test]
+fn deep(rt: HostRuntime) -> Result<(), AllocError> {
+    let opening = "list { ".repeat(rt.alloc(), 40)?;
+    let closing = "} ".repeat(rt.alloc(), 40)?;
+    let text = format!(in rt.alloc(); "start = {opening}empty {closing}")?;
+    let xml = schema_xml(rt.alloc(), text.as_str()).expect(&rt, "no XML");
+    let last = format!(in rt.alloc(); "\n{:64}<list>\n{:64}<empty/>\n{:64}</list>\n", "", "", "")?;
+    assert!(rt; xml.as_str().contains(last.as_str()));
+    let last = format!(in rt.alloc(); "\n{:62}<list>\n{:64}<list>\n{:64}<list>\n", "", "", "")?;
+    assert!(rt; xml.as_str().contains(last.as_str()));
+    let more = format!(in rt.alloc(); "\n{:65}", "")?;
+    assert!(rt; !xml.as_str().contains(more.as_str()));
+    Ok(())
+}
