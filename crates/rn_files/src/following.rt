@@ -10,7 +10,6 @@ use crate::escapes::file_uri;
 use crate::file_texts::{FileText, MAX_TEXT, text_of};
 use crate::files::{FileFault, Files, STANDARD_INPUT};
 use crate::maps::{Location, Map, locate};
-use crate::paths::remove_dot_segments;
 use crate::root_folder::RootFolder;
 use crate::source_faults::{FaultPlace, SourceFaultKind};
 use crate::uri_references::resolve_below;
@@ -56,20 +55,14 @@ fn shown_path<'p>(current: &str, path: &'p str) -> &'p str {
     }
 }
 
-/// The path of a file or a folder as it was asked for, from the current folder.
-pub fn word_path(alloc: Global, current: &str, word: &str) -> Result<String, AllocError> {
+/// The URI of a file or a folder as it was asked for, from the current folder.
+pub fn word_uri(alloc: Global, current: &str, word: &str) -> Result<String, AllocError> {
     let mut path = String::new(alloc);
     if !word.starts_with('/') {
         path.push_str(current)?;
         path.push_str("/")?;
     }
     path.push_str(word)?;
-    remove_dot_segments(alloc, path.as_str())
-}
-
-/// The URI of a file as it was asked for.
-fn word_uri(alloc: Global, current: &str, word: &str) -> Result<String, AllocError> {
-    let path = word_path(alloc, current, word)?;
     file_uri(alloc, path.as_str())
 }
 

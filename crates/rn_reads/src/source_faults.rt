@@ -49,8 +49,16 @@ fn files_outside_the_root_folder_are_refused(rt: HostRuntime) {
     each_answered(&rt, &ROOT_FOLDER);
 }
 
-/// References above the topmost folder.
-static TOPMOST: [(&str, &str); 2] = [
+/// References above the topmost folder, and above that of a URI that a map finds, by escapes too.
+static TOPMOST: [(&str, &str); 4] = [
+    (
+        "file\t/w/a.rnc\tinclude 'http://h/%2e%2e/b.rnc' include 'http://h/x/.%2E/%2E./b.rnc' include 'http://h/x/%2e%2e/b.rnc'\nfile\t/w/b.rnc\t\nfile\t/w/m/b.rnc\t\nword\ta.rnc\nmap\thttp://h\tm",
+        "Text { file: 0, at: 8 } Reference(Above);Text { file: 0, at: 40 } Reference(Above);",
+    ),
+    (
+        "file\t/w/a.rnc\tinclude 'x/%2e%2e/b.rnc' include '%2e/b.rnc' include '%252e%252e/c.rnc'\nfile\t/w/b.rnc\t\nfile\t/w/%2e%2e/c.rnc\t\nword\ta.rnc",
+        "a.rnc [1, 1, 2] b.rnc [] %252e%252e/c.rnc [] roots [0]",
+    ),
     (
         "file\t/w/a.rnc\tinclude '../b.rnc' include '../../b.rnc' include 'file:///../b.rnc' include 'x/../../../b.rnc'\nfile\t/b.rnc\t\nword\ta.rnc",
         "Text { file: 0, at: 27 } Reference(Above);Text { file: 0, at: 49 } Reference(Above);Text { file: 0, at: 76 } Reference(Above);",
