@@ -50,6 +50,7 @@ if [ "$(id -u)" -eq 0 ] && command -v setpriv >/dev/null; then
 else
     as_user() { "$@"; }
 fi
+chmod 755 "$work" "$work/rooms" .
 mkdir open
 chmod 777 open
 echo old >open/flat.rnc
