@@ -39,6 +39,14 @@ impl Files for System<'_> {
         }
         read_all(alloc, &mut Input::new(opened))
     }
+
+    fn is_special(&self, _alloc: Global, path: &str) -> bool {
+        fs::metadata(self.rt, path).is_ok_and(|found| !found.is_file() && !found.is_dir())
+    }
+
+    fn is_link(&self, path: &str) -> bool {
+        fs::symlink_metadata(self.rt, path).is_ok_and(|found| found.is_symlink())
+    }
 }
 
 /// Whether the path from the root leads to a pipe or a device. Those of a process, such as `/dev/fd/63`, have no other
