@@ -493,6 +493,12 @@ include include_pattern 1 'the file is a pattern, and only a grammar can be incl
 include host 1 'the reference names a host' 'file://host/x.rnc'
 include scheme 1 'no map says where the URI lies' 'http://example.org/x.rnc'
 include above 1 '`..` leads above the topmost folder' '../../../../../../../../../../../../../../../../../../../../x.rnc'
+for up in %2e%2e %2E%2E %2e%2E .%2e .%2E %2e. %2E.; do
+    include "above $up" 1 '`..` leads above the topmost folder' "file:///$up/x.rnc"
+    printf 'include "http://m/%s/%s/x.rnc"\nstart = text\n' "$up" "$up" >include.rnc
+    begins "above a map $up" 1 'include.rnc:1:9: error: `..` leads above the topmost folder' --map http://m/=folder include.rnc
+    begins "above a map, with a root $up" 1 'include.rnc:1:9: error: `..` leads above the topmost folder' --root . --map http://m/=folder include.rnc
+done
 include above_at_once 1 '`..` leads above the topmost folder' 'file:///../x.rnc'
 include nul 1 'an escape stands for a byte that no file name holds' 'x%00.rnc'
 include slash 1 'an escape stands for a byte that no file name holds' 'x%2Fy.rnc'

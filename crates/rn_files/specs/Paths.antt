@@ -1,7 +1,7 @@
 -- Paths of URIs, as lists of segments (RFC 3986, 3.3, 5.2.3 and 5.2.4).
-use Rattle.std.specs.Prelude.{ℕ, ◌+◌, ◌-◌, ◌==◌, ◌||◌, Bool, List, [], ◌∷◌, ◌++◌, length, take, slice_index_or, if◌then◌else◌}
-use Rattle.std.specs.List.{fold, slice_split, join_with_byte}
-use Rattle.std.specs.Str.{bytes_eq}
+use Rattle.std.specs.Prelude.{ℕ, ◌+◌, ◌-◌, ◌==◌, ◌||◌, Bool, List, [], ◌∷◌, ◌++◌, codes, length, take, slice_index_or, if◌then◌else◌}
+use Rattle.std.specs.List.{fold, list_any, slice_split, join_with_byte}
+use Rattle.std.specs.Str.{bytes_eq, str_eq_ignore_ascii_case}
 
 abbrev pub is_slash : ℕ → Bool
 is_slash b = b == 47
@@ -19,13 +19,15 @@ segments path = slice_split is_slash path
 abbrev pub path_of : List Segment → List ℕ
 path_of ss = join_with_byte 47 ss
 
--- the segment `.`, which means the folder that it stands in
+-- the segment `.`, which means the folder that it stands in; a dot may be spelled as its escape, which is the same (6.2.2.2)
 abbrev pub is_here : Segment → Bool
-is_here s = bytes_eq s (46 ∷ [])
+is_here s = bytes_eq s (46 ∷ []) || str_eq_ignore_ascii_case s (codes "%2e")
 
 -- the segment `..`, which means the folder around it
 abbrev pub is_up : Segment → Bool
-is_up s = bytes_eq s (46 ∷ 46 ∷ [])
+is_up s =
+    bytes_eq s (46 ∷ 46 ∷ []) || str_eq_ignore_ascii_case s (codes ".%2e") || str_eq_ignore_ascii_case s (codes "%2e.")
+    || str_eq_ignore_ascii_case s (codes "%2e%2e")
 
 -- the segment is a dot segment: `.` or `..`
 abbrev pub is_dots : Segment → Bool
@@ -58,3 +60,11 @@ without_dots ss = if ends_in_dots ss then walked_folder ss ++ ([] ∷ []) else w
 
 abbrev pub remove_dot_segments : List ℕ → List ℕ
 remove_dot_segments path = path_of (without_dots (segments path))
+
+-- the segment of a path, whose escapes are decoded, is `.` or `..`
+abbrev pub is_dot_or_two : Segment → Bool
+is_dot_or_two s = bytes_eq s (46 ∷ []) || bytes_eq s (46 ∷ 46 ∷ [])
+
+-- a path, whose escapes are decoded, has such a segment
+abbrev pub has_dots : List ℕ → Bool
+has_dots path = list_any is_dot_or_two (segments path)

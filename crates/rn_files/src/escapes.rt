@@ -2,8 +2,9 @@
 ghost use Rattle.std.specs.Prelude.{◌≡◌, ◌++◌, ◌<◌, [], true, IfOk, IsTrue, OnOk, string_bytes};
 ghost use Rattle.percent_encoding.specs.Percent.{percent_encode_byte};
 ghost use Rattle.rn_files.specs.Escapes.{begins_with_digits, byte_or_escape, escaped_reference, has_escapes, is_allowed};
-ghost use Rattle.rn_files.specs.inside.FileUris.{file_uri, is_path_byte};
+ghost use Rattle.rn_files.specs.inside.FileUris.{escaped_path, file_uri, is_path_byte};
 
+use crate::paths::remove_dot_segments;
 use percent_encoding::percent_encode_byte;
 use std::alloc::{AllocError, Global};
 
@@ -78,13 +79,24 @@ pub fn escape(alloc: Global, reference: &str) -> Result<String, AllocError>
     Ok(out)
 }
 
-/// The `file` URI of a path that begins with `/` (RFC 8089): each byte that no path of a URI holds is escaped.
-pub fn file_uri(alloc: Global, path: &str) -> Result<String, AllocError>
-    ensures { IfOk result (λ uri. string_bytes uri ≡ file_uri path.now) }
+/// The path with each byte escaped that no path of a URI holds.
+fn escaped_path(alloc: Global, path: &str) -> Result<String, AllocError>
+    ensures { IfOk result (λ text. string_bytes text ≡ escaped_path path.now) }
 {
-    let mut out = String::from_str(alloc, "file://")?;
+    let mut out = String::new(alloc);
     for byte in path.as_bytes() {
         push_byte(&mut out, *byte, is_path_byte(*byte))?;
     }
+    Ok(out)
+}
+
+/// The `file` URI of a path that begins with `/` (RFC 8089), without dot segments: each byte that no path of a URI holds
+/// is escaped.
+pub fn file_uri(alloc: Global, path: &str) -> Result<String, AllocError>
+    ensures { IfOk result (λ uri. string_bytes uri ≡ file_uri path.now) }
+{
+    let escaped = escaped_path(alloc, path)?;
+    let mut out = String::from_str(alloc, "file://")?;
+    out.push_str(remove_dot_segments(alloc, escaped.as_str())?.as_str())?;
     Ok(out)
 }

@@ -15,6 +15,9 @@ pub enum FileFault {
     /// The path leads to a folder.
     #[error("this is a folder")]
     Folder,
+    /// The path leads to a pipe, a device or a socket, where only a regular file is read.
+    #[error("this is not a regular file")]
+    Special,
     /// The file has more than [`MAX_TEXT`] bytes.
     #[error("the file is larger than {most} bytes", most = Grouped(MAX_TEXT))]
     Large,
@@ -48,4 +51,10 @@ pub trait Files {
     /// `MAX_TEXT`; another fault tells why they can't be read, or that memory ran out.
     fn read(&self, alloc: Global, path: &str) -> Result<Vec<u8>, FileFault>
         ensures { IfOk result (λ bytes. gives self.now path.now bytes.items) };
+
+    /// Whether the path leads to a pipe, a device or a socket, which is looked at and not opened.
+    fn is_special(&self, alloc: Global, path: &str) -> bool;
+
+    /// Whether a link lies at the path: its last segment is not followed.
+    fn is_link(&self, path: &str) -> bool;
 }

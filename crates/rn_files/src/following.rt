@@ -10,7 +10,6 @@ use crate::escapes::file_uri;
 use crate::file_texts::{FileText, MAX_TEXT, text_of};
 use crate::files::{FileFault, Files, STANDARD_INPUT};
 use crate::maps::{Location, Map, locate};
-use crate::paths::remove_dot_segments;
 use crate::root_folder::RootFolder;
 use crate::source_faults::{FaultPlace, SourceFaultKind};
 use crate::uri_references::resolve_below;
@@ -56,20 +55,14 @@ fn shown_path<'p>(current: &str, path: &'p str) -> &'p str {
     }
 }
 
-/// The path of a file or a folder as it was asked for, from the current folder.
-pub fn word_path(alloc: Global, current: &str, word: &str) -> Result<String, AllocError> {
+/// The URI of a file or a folder as it was asked for, from the current folder.
+pub fn word_uri(alloc: Global, current: &str, word: &str) -> Result<String, AllocError> {
     let mut path = String::new(alloc);
     if !word.starts_with('/') {
         path.push_str(current)?;
         path.push_str("/")?;
     }
     path.push_str(word)?;
-    remove_dot_segments(alloc, path.as_str())
-}
-
-/// The URI of a file as it was asked for.
-fn word_uri(alloc: Global, current: &str, word: &str) -> Result<String, AllocError> {
-    let path = word_path(alloc, current, word)?;
     file_uri(alloc, path.as_str())
 }
 
@@ -144,8 +137,58 @@ pub fn enter_words<F: Files>(
     Ok(roots)
 }
 
-/// The real path of the file that a reference leads to. Where there is no such file, and it would not lie below the
-/// root folder, that is the fault.
+/// Whether a link lies on the way from a folder along the rest of a path.
+fn passes_link<F: Files>(
+    alloc: Global,
+    files: &F,
+    folder: &str,
+    rest: &str,
+) -> Result<bool, AllocError> {
+    let mut path = String::from_str(alloc, folder)?;
+    for segment in rest.split('/') {
+        path.push_str(segment)?;
+        if files.is_link(path.as_str()) {
+            return Ok(true);
+        }
+        path.push_str("/")?;
+    }
+    Ok(false)
+}
+
+/// Whether a path leads out of the root folder, or a link on its way may lead it out.
+fn may_lead_out<F: Files>(
+    alloc: Global,
+    files: &F,
+    root: &RootFolder,
+    path: &str,
+) -> Result<bool, AllocError> {
+    if let Some(rest) = path.strip_prefix(root.spelled.as_str()) {
+        return passes_link(alloc, files, root.spelled.as_str(), rest);
+    }
+    if let Some(rest) = path.strip_prefix(root.real.as_str()) {
+        return passes_link(alloc, files, root.real.as_str(), rest);
+    }
+    Ok(true)
+}
+
+/// Whether a reference that has no file may lead out of the root folder: then its fault is the same for all, so that
+/// nothing outside tells whether it is there.
+fn is_hidden<F: Files>(
+    alloc: Global,
+    files: &F,
+    ways: &Ways<'_>,
+    leads: &Location,
+) -> Result<bool, AllocError> {
+    match ways.root {
+        Some(root) if !leads.is_mapped => {
+            may_lead_out(alloc, files, root, leads.path.as_str())
+        }
+        _ => Ok(false),
+    }
+}
+
+/// The real path of the file that a reference leads to, which is no pipe, device or socket. Where there is no such
+/// file, and with a root folder the reference may lead out of it, that is the fault.
 fn real_path<F: Files>(
     alloc: Global,
     files: &F,
@@ -158,10 +201,13 @@ fn real_path<F: Files>(
     ensures led { IfOk result (λ found. IfSome found (λ path.
         F.leads files.now (string_bytes leads.now.path) (string_bytes path))) }
 {
-    let answer = files.real_path(alloc, leads.path.as_str());
-    let is_outside = ways.root.is_some_and(|root| !leads.is_mapped
-        && !root.spells(leads.path.as_str()));
-    if is_outside && matches!(&answer, Err(FileFault::Missing)) {
+    let answer = if files.is_special(alloc, leads.path.as_str()) {
+        Err(FileFault::Special)
+    } else {
+        files.real_path(alloc, leads.path.as_str())
+    };
+    let is_told = matches!(&answer, Ok(_) | Err(FileFault::Memory));
+    if !is_told && is_hidden(alloc, files, ways, leads)? {
         walk.note(place, SourceFaultKind::Outside)?;
         return Ok(None);
     }

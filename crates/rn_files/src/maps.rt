@@ -1,10 +1,12 @@
 // Where the files lie that URIs stand for.
-ghost use Rattle.std.specs.Prelude.{◌≡◌, ◌==◌, IfOk, MatchOption, codes, nat_eq, slice_index, string_bytes};
+ghost use Rattle.std.specs.Prelude.{◌≡◌, ◌==◌, false, IfOk, MatchOption, codes, nat_eq, slice_index, string_bytes};
 ghost use Rattle.std.specs.List.{ends_with};
 ghost use Rattle.std.specs.Option.{option_copied, option_map};
+ghost use Rattle.rn_files.specs.Paths.{has_dots};
 ghost use Rattle.percent_encoding.specs.Percent.{percent_decode};
 ghost use Rattle.rn_files.specs.inside.Maps.{HasNoMap, IsFilePath, IsLongest, IsLocation, behind, behind_prefix, below, chosen, has_no_host, is_file_scheme, is_whole};
 
+use crate::paths::has_dots;
 use crate::uri_references::{ReferenceFault, no_memory};
 use crate::uris::split;
 use percent_encoding::{DecodeError, percent_decode_str};
@@ -116,17 +118,30 @@ fn has_unnamed(text: &str) -> bool {
 }
 
 /// The text with each escape replaced by its byte.
-fn decode(alloc: Global, text: &str) -> Result<String, ReferenceFault>
+fn decoded(alloc: Global, text: &str) -> Result<String, ReferenceFault>
     ensures { IfOk result (λ found. string_bytes found ≡ percent_decode text.now) }
 {
-    if has_unnamed(text) {
-        return Err(ReferenceFault::Byte);
-    }
     match percent_decode_str(text).decode_utf8(alloc) {
         Ok(found) => found.into_owned(alloc).map_err(|_| ReferenceFault::Memory),
         Err(DecodeError::OutOfMemory) => Err(ReferenceFault::Memory),
         Err(_) => Err(ReferenceFault::Encoding),
     }
+}
+
+/// The path with each escape replaced by its byte. No segment of it is `.` or `..`: those of a URI are removed before,
+/// and what is left of them leads above.
+fn decode(alloc: Global, text: &str) -> Result<String, ReferenceFault>
+    ensures decoded { IfOk result (λ found. string_bytes found ≡ percent_decode text.now) }
+    ensures plain { IfOk result (λ found. has_dots (string_bytes found) ≡ false) }
+{
+    if has_unnamed(text) {
+        return Err(ReferenceFault::Byte);
+    }
+    let found = decoded(alloc, text)?;
+    if has_dots(alloc, found.as_str()).map_err(no_memory)? {
+        return Err(ReferenceFault::Above);
+    }
+    Ok(found)
 }
 
 /// The folder, a slash where neither side has one, and the path.
@@ -144,7 +159,8 @@ fn put_below(alloc: Global, folder: &str, rest: &str, path: &str) -> Result<Stri
 
 /// The folder, and below it the decoded rest of the URI.
 fn path_below(alloc: Global, folder: &str, rest: &str) -> Result<String, ReferenceFault>
-    ensures { IfOk result (λ path. string_bytes path ≡ below folder.now rest.now) }
+    ensures below { IfOk result (λ path. string_bytes path ≡ below folder.now rest.now) }
+    ensures plain { IfOk result (λ _. has_dots (percent_decode rest.now) ≡ false) }
 {
     let path = decode(alloc, rest)?;
     put_below(alloc, folder, rest, path.as_str()).map_err(no_memory)
@@ -188,7 +204,7 @@ fn file_path(alloc: Global, uri: &str) -> Result<String, ReferenceFault>
 }
 
 /// Where the URI lies: below the folder of the longest prefix, or, where no map has one, at the path of a `file` URI
-/// without a host (RFC 8089). Escapes are decoded.
+/// without a host (RFC 8089). Escapes are decoded; where a segment then is `.` or `..`, the fault is `Above`.
 pub fn locate(alloc: Global, maps: &[Map], uri: &str) -> Result<Location, ReferenceFault>
     ensures { IfOk result (λ place.
         IsLocation maps.now uri.now (string_bytes place.path) place.is_mapped) }

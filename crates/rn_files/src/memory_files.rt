@@ -15,6 +15,8 @@ use std::collections::BTreeMap;
 pub enum MemoryEntry {
     /// A file of these bytes.
     File(Vec<u8>),
+    /// A pipe that has these bytes.
+    Pipe(Vec<u8>),
     /// A link to the file or folder at this real path.
     Link(String),
 }
@@ -57,6 +59,15 @@ impl MemoryFiles {
         let path = String::from_str(alloc, path)?;
         let bytes = bytes.to_vec(alloc)?;
         self.entries.insert(path, MemoryEntry::File(bytes))?;
+        Ok(())
+    }
+
+    /// Puts a pipe at a real path, in place of what was there. Refused only where memory runs out: then what was there
+    /// stays.
+    pub fn add_pipe(&mut self, alloc: Global, path: &str, bytes: &[u8]) -> Result<(), AllocError> {
+        let path = String::from_str(alloc, path)?;
+        let bytes = bytes.to_vec(alloc)?;
+        self.entries.insert(path, MemoryEntry::Pipe(bytes))?;
         Ok(())
     }
 
@@ -127,8 +138,20 @@ impl Files for MemoryFiles {
         match self.entries.get(path) {
             Some(MemoryEntry::File(bytes)) if bytes.len() > MAX_TEXT => Err(FileFault::Large),
             Some(MemoryEntry::File(bytes)) => bytes.as_slice().to_vec(alloc).map_err(no_memory),
+            Some(MemoryEntry::Pipe(bytes)) => bytes.as_slice().to_vec(alloc).map_err(no_memory),
             _ if self.is_folder(path) => Err(FileFault::Folder),
             _ => Err(FileFault::Missing),
         }
+    }
+
+    fn is_special(&self, alloc: Global, path: &str) -> bool {
+        match self.real_path(alloc, path) {
+            Ok(real) => matches!(self.entries.get(real.as_str()), Some(MemoryEntry::Pipe(_))),
+            Err(_) => false,
+        }
+    }
+
+    fn is_link(&self, path: &str) -> bool {
+        matches!(self.entries.get(path), Some(MemoryEntry::Link(_)))
     }
 }

@@ -3,6 +3,7 @@ ghost use Rattle.std.specs.Prelude.{◌≡◌, ◌==◌, ◌++◌, ◌∷◌, ma
 ghost use Rattle.std.specs.List.{flat_map};
 ghost use Rattle.rn_files.specs.Paths.{ends_in_dots, entered_folder, is_here, is_up, outer, path_of, remove_dot_segments, segments, walked_folder, without_dots};
 ghost use Rattle.rn_files.specs.inside.UriReferences.{LeadAbove, finds_none, is_top};
+ghost use Rattle.rn_files.specs.Paths.{has_dots, is_dot_or_two};
 
 use std::alloc::{AllocError, Global};
 
@@ -13,18 +14,21 @@ pub fn segments(alloc: Global, path: &str) -> Result<Vec<&str>, AllocError>
     path.split('/').collect(alloc)
 }
 
-/// Whether the segment is `.`.
+/// Whether the segment is `.`, which may be spelled as an escape (RFC 3986, section 6.2.2.2).
 fn is_here(segment: &str) -> bool
     ensures { result ≡ is_here segment.now }
 {
-    segment == "."
+    segment == "." || segment.eq_ignore_ascii_case("%2e")
 }
 
-/// Whether the segment is `..`.
+/// Whether the segment is `..`, of which each dot may be spelled as an escape.
 fn is_up(segment: &str) -> bool
     ensures { result ≡ is_up segment.now }
 {
     segment == ".."
+        || segment.eq_ignore_ascii_case(".%2e")
+        || segment.eq_ignore_ascii_case("%2e.")
+        || segment.eq_ignore_ascii_case("%2e%2e")
 }
 
 /// Goes to the folder around; at the first segment, the empty one is left.
@@ -113,8 +117,8 @@ pub fn joined_path(alloc: Global, segments: &[&str]) -> Result<String, AllocErro
     Ok(path)
 }
 
-/// The path without its segments `.` and `..` (RFC 3986, section 5.2.4). A `..` at the top is dropped. The only error
-/// is want of memory.
+/// The path of a URI without its segments `.` and `..` (RFC 3986, section 5.2.4), of which each dot may be spelled as
+/// an escape (6.2.2.2). A `..` at the top is dropped. The only error is out of memory.
 pub fn remove_dot_segments(alloc: Global, path: &str) -> Result<String, AllocError>
     ensures { IfOk result (λ left. string_bytes left ≡ remove_dot_segments path.now) }
 {
@@ -155,4 +159,20 @@ pub fn lead_above(alloc: Global, segments: &[&str]) -> Result<bool, AllocError>
         enter(&mut folder, segment)?;
     }
     Ok(false)
+}
+
+/// Whether the segment of a path, whose escapes are decoded, is `.` or `..`.
+fn is_dot_or_two(segment: &str) -> bool
+    ensures { result ≡ is_dot_or_two segment.now }
+{
+    segment == "." || segment == ".."
+}
+
+/// Whether a path, whose escapes are decoded, has a segment `.` or `..`.
+#[tactic(auto, using(crate::proofs::WalkedSegments::any_of_texts))]
+pub fn has_dots(alloc: Global, path: &str) -> Result<bool, AllocError>
+    ensures { IfOk result (λ dots. dots ≡ has_dots path.now) }
+{
+    let parts = segments(alloc, path)?;
+    Ok(parts.iter().any(|part| is_dot_or_two(part)))
 }

@@ -14,11 +14,6 @@ impl RootFolder {
     pub fn holds(&self, path: &str) -> bool {
         path.starts_with(self.real.as_str())
     }
-
-    /// Whether a path lies below the root folder, by its real path or as it was asked for.
-    pub fn spells(&self, path: &str) -> bool {
-        self.holds(path) || path.starts_with(self.spelled.as_str())
-    }
 }
 
 /// A path up to its last slash, and with it; nothing where it has no slash.

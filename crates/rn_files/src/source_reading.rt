@@ -4,7 +4,8 @@ ghost use Rattle.rn_files.specs.inside.Following.{IsFollowed};
 ghost use Rattle.rn_files.specs.Sources.{AreSoundSources, IsTextAt};
 
 use crate::files::Files;
-use crate::following::{Ways, enter_words, follow_all, word_path};
+use crate::following::{Ways, enter_words, follow_all, word_uri};
+use crate::maps::locate;
 use crate::module_names::module_name;
 use crate::root_folder::{RootFolder, common_folder};
 use crate::soundness::sources_fault;
@@ -119,10 +120,14 @@ fn given_root<F: Files>(
     let Some(real) = walk.note_answer(FaultPlace::Root, files.real_path(alloc, root))? else {
         return Ok(None);
     };
-    let spelled = word_path(alloc, current, root)?;
+    let uri = word_uri(alloc, current, root)?;
+    let spelled = locate(alloc, &[], uri.as_str());
+    let Some(spelled) = walk.note_reference(FaultPlace::Root, spelled)? else {
+        return Ok(None);
+    };
     Ok(Some(RootFolder {
         real: with_slash(real)?,
-        spelled: with_slash(spelled)?,
+        spelled: with_slash(spelled.path)?,
     }))
 }
 

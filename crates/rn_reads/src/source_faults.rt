@@ -12,6 +12,52 @@ fn references_have_their_faults(rt: HostRuntime) {
     each_answered(&rt, &REFERENCES);
 }
 
+/// Pipes: a reference opens none, an argument does.
+static PIPES: [(&str, &str); 2] = [
+    (
+        "file\t/w/a.rnc\tinclude 'p' include 'l' include 'http://h/p'\npipe\t/w/p\tx = text\nlink\t/w/l\t/w/p\nword\ta.rnc\nmap\thttp://h\t/w",
+        "Text { file: 0, at: 8 } File(Special);Text { file: 0, at: 20 } File(Special);Text { file: 0, at: 32 } File(Special);",
+    ),
+    (
+        "pipe\t/w/p\tstart = text\nword\tp\nword\t./p",
+        "p [] roots [0]",
+    ),
+];
+
+#[test]
+fn pipes_are_read_where_an_argument_names_them(rt: HostRuntime) {
+    each_answered(&rt, &PIPES);
+}
+
+/// References that lead out of the root folder, or that a link may lead out, whether something is there or not.
+static LED_OUT: [(&str, &str); 5] = [
+    (
+        "file\t/w/r/a.rnc\tinclude 'l' include 'l/x' include '/x/y' include 'd/l/y'\nlink\t/w/r/l\t/w/none\nlink\t/w/r/d/l\t/w/r\nword\tr/a.rnc\nroot\tr",
+        "Text { file: 0, at: 8 } Outside;Text { file: 0, at: 20 } Outside;Text { file: 0, at: 34 } Outside;Text { file: 0, at: 49 } Outside;",
+    ),
+    (
+        "file\t/w/r/a.rnc\tinclude '/w' include '/w/p' include 'p' include 'l'\npipe\t/w/p\t\npipe\t/w/r/p\t\nlink\t/w/r/l\t/w/p\nword\tr/a.rnc\nroot\tr",
+        "Text { file: 0, at: 8 } Outside;Text { file: 0, at: 21 } Outside;Text { file: 0, at: 36 } File(Special);Text { file: 0, at: 48 } Outside;",
+    ),
+    (
+        "file\t/w/r/a.rnc\tinclude 'http://h/b.rnc'\nlink\t/w/m/b.rnc\t/w/c.rnc\nfile\t/w/c.rnc\t\nword\tr/a.rnc\nmap\thttp://h\t/w/m",
+        "a.rnc [1] http://h/b.rnc [] roots [0]",
+    ),
+    (
+        "file\t/w/r/a.rnc\tinclude 'http://h/b.rnc'\nlink\t/w/m/b.rnc\t/w/r/c.rnc\nfile\t/w/r/c.rnc\t\nword\tr/a.rnc\nroot\tr\nmap\thttp://h\t/w/m",
+        "a.rnc [1] http://h/b.rnc [] roots [0]",
+    ),
+    (
+        "file\t-\tinclude 'b.rnc'\nfile\t/w/b.rnc\t\nword\t-\nroot\t/w",
+        "- [1] b.rnc [] roots [0]",
+    ),
+];
+
+#[test]
+fn what_leads_out_of_the_root_folder_has_one_fault(rt: HostRuntime) {
+    each_answered(&rt, &LED_OUT);
+}
+
 /// Files above the root folder, in a folder of its name and in others.
 static ROOT_FOLDER: [(&str, &str); 7] = [
     (
@@ -49,8 +95,16 @@ fn files_outside_the_root_folder_are_refused(rt: HostRuntime) {
     each_answered(&rt, &ROOT_FOLDER);
 }
 
-/// References above the topmost folder.
-static TOPMOST: [(&str, &str); 2] = [
+/// References above the topmost folder, and above that of a URI that a map finds, by escapes too.
+static TOPMOST: [(&str, &str); 4] = [
+    (
+        "file\t/w/a.rnc\tinclude 'http://h/%2e%2e/b.rnc' include 'http://h/x/.%2E/%2E./b.rnc' include 'http://h/x/%2e%2e/b.rnc'\nfile\t/w/b.rnc\t\nfile\t/w/m/b.rnc\t\nword\ta.rnc\nmap\thttp://h\tm",
+        "Text { file: 0, at: 8 } Reference(Above);Text { file: 0, at: 40 } Reference(Above);",
+    ),
+    (
+        "file\t/w/a.rnc\tinclude 'x/%2e%2e/b.rnc' include '%2e/b.rnc' include '%252e%252e/c.rnc'\nfile\t/w/b.rnc\t\nfile\t/w/%2e%2e/c.rnc\t\nword\ta.rnc",
+        "a.rnc [1, 1, 2] b.rnc [] %252e%252e/c.rnc [] roots [0]",
+    ),
     (
         "file\t/w/a.rnc\tinclude '../b.rnc' include '../../b.rnc' include 'file:///../b.rnc' include 'x/../../../b.rnc'\nfile\t/b.rnc\t\nword\ta.rnc",
         "Text { file: 0, at: 27 } Reference(Above);Text { file: 0, at: 49 } Reference(Above);Text { file: 0, at: 76 } Reference(Above);",

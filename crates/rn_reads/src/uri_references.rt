@@ -3,9 +3,10 @@ use crate::comparing::{expect_text, same_for};
 use rn_files::{remove_dot_segments, resolve};
 use std::alloc::{AllocError, Global};
 
-/// References in `http://a/b/c/d;p`, and the URIs that they stand for. All but the last three are those of RFC 3986, sections 5.4.1 and
-/// 5.4.2, without their queries and fragments; these three have characters that are escaped, an escape, and a host with dot segments.
-static RESOLVED: [(&str, &str); 34] = [
+/// References in `http://a/b/c/d;p`, and the URIs that they stand for. All but the last ten are those of RFC 3986, sections 5.4.1 and
+/// 5.4.2, without their queries and fragments; these have characters that are escaped, an escape, a host with dot segments, and dots that
+/// are spelled as escapes.
+static RESOLVED: [(&str, &str); 41] = [
     ("g:h", "g:h"),
     ("g", "http://a/b/c/g"),
     ("./g", "http://a/b/c/g"),
@@ -40,6 +41,13 @@ static RESOLVED: [(&str, &str); 34] = [
     ("a b\u{e9}\\", "http://a/b/c/a%20b%C3%A9%5C"),
     ("a%20b", "http://a/b/c/a%20b"),
     ("//h/./x/../y", "http://h/y"),
+    ("%2e/g", "http://a/b/c/g"),
+    ("%2E%2e/g", "http://a/b/g"),
+    (".%2e/g", "http://a/b/g"),
+    ("%2E./g", "http://a/b/g"),
+    ("%2e%2e/%2e%2e/%2e%2e/g", "http://a/g"),
+    ("g%2eh", "http://a/b/c/g%2eh"),
+    ("%252e%252e/g", "http://a/b/c/%252e%252e/g"),
 ];
 
 /// References that stand for no URI of a file.

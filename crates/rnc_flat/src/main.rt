@@ -2,8 +2,10 @@
 #![tactic(auto)]
 
 mod system;
+mod written;
 
-use crate::system::{System, Written};
+use crate::system::System;
+use crate::written::Written;
 use rn_flat::{Colours, FlatFault, Words, WordsFault, fault_lines, perform, read_words, status};
 use rn_merge::{Output, write_output};
 use std::env;

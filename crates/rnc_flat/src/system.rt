@@ -1,16 +1,12 @@
-// The files of the system.
+// The files of the system, as they are read.
 ghost use Rattle.std.specs.Prelude.{◌≡◌, false};
 
 use rn_files::{FileFault, Files, MAX_TEXT, STANDARD_INPUT};
-use rn_flat::Outputs;
-use rn_merge::{Failed, Input, ReadFault, Source, read_input};
+use rn_merge::{Input, ReadFault, Source, read_input};
 use std::alloc::Global;
-use std::fs::{File, Metadata, OpenOptions};
-use std::io::{ErrorKind, Write};
-use std::{fs, io, process};
-
-/// How many names are tried for a file beside another.
-const ATTEMPTS: usize = 100;
+use std::fs::File;
+use std::io::ErrorKind;
+use std::{fs, io};
 
 /// The files of the system, as they are read.
 #[derive(Drop)]
@@ -42,6 +38,14 @@ impl Files for System<'_> {
             return Err(FileFault::Large);
         }
         read_all(alloc, &mut Input::new(opened))
+    }
+
+    fn is_special(&self, _alloc: Global, path: &str) -> bool {
+        fs::metadata(self.rt, path).is_ok_and(|found| !found.is_file() && !found.is_dir())
+    }
+
+    fn is_link(&self, path: &str) -> bool {
+        fs::symlink_metadata(self.rt, path).is_ok_and(|found| found.is_symlink())
     }
 }
 
@@ -75,78 +79,4 @@ fn fault_of(error: &io::Error) -> FileFault {
         ErrorKind::OutOfMemory => FileFault::Memory,
         _ => FileFault::Refused,
     }
-}
-
-/// The files of the system, as they are written.
-#[derive(Drop)]
-pub struct Written<'a> {
-    /// What asks the system.
-    pub rt: &'a HostRuntime,
-}
-
-impl Outputs for Written<'_> {
-    fn replace(&mut self, path: &str, bytes: &[u8]) -> Result<(), Failed> {
-        write_whole(self.rt, path, bytes).map_err(|_| Failed)
-    }
-}
-
-/// A regular file or a new path gets these bytes whole or not at all. A link is followed; one that leads nowhere is
-/// refused. Anything else, as a terminal or a pipe, is written to, and may hold a front after an error.
-fn write_whole(rt: &HostRuntime, path: &str, bytes: &[u8]) -> io::Result<()> {
-    let Ok(metadata) = fs::metadata(rt, path) else {
-        return write_new(rt, path, bytes);
-    };
-    if metadata.is_file() {
-        let real = fs::canonicalize(rt, path)?;
-        return write_beside(rt, real.as_path().as_str(), bytes, Some(metadata));
-    }
-    let mut opened = OpenOptions::new().write(true).open(rt, path)?;
-    opened.write_all(bytes)
-}
-
-/// Writes the bytes to a path at which there is nothing, not even a link.
-fn write_new(rt: &HostRuntime, path: &str, bytes: &[u8]) -> io::Result<()> {
-    if fs::symlink_metadata(rt, path).is_ok() {
-        return Err(io::Error::from(ErrorKind::NotFound));
-    }
-    write_beside(rt, path, bytes, None)
-}
-
-/// Writes the bytes to a new file beside the one at the path, which then takes its place.
-fn write_beside(
-    rt: &HostRuntime,
-    path: &str,
-    bytes: &[u8],
-    former: Option<Metadata>,
-) -> io::Result<()> {
-    let (beside, mut file) = new_beside(rt, path)?;
-    let written = fill(&mut file, bytes, former);
-    let done = written.and_then(|()| fs::rename(rt, beside.as_str(), path));
-    if done.is_err() {
-        let _ = fs::remove_file(rt, beside.as_str());
-    }
-    done
-}
-
-/// Writes the bytes to a new file, and sees that the disk has them. The file may be used as the former one.
-fn fill(file: &mut File, bytes: &[u8], former: Option<Metadata>) -> io::Result<()> {
-    if let Some(metadata) = former {
-        file.set_permissions(metadata.permissions())?;
-    }
-    file.write_all(bytes)?;
-    file.sync_all()
-}
-
-/// A new file whose name is that of the path with an ending, and its path.
-fn new_beside(rt: &HostRuntime, path: &str) -> io::Result<(String, File)> {
-    let process = process::id(rt.process());
-    for attempt in 0..ATTEMPTS {
-        let beside = format!(in rt.alloc(); "{path}.{process}-{attempt}.new")?;
-        match File::create_new(rt, beside.as_str()) {
-            Ok(file) => return Ok((beside, file)),
-            Err(error) if error.kind() == ErrorKind::AlreadyExists => {}
-            Err(error) => return Err(error),
-        }
-    }
-    Err(io::Error::from(ErrorKind::AlreadyExists))
 }

@@ -4,6 +4,7 @@ use Rattle.std.specs.List.{ends_with, starts_with}
 use Rattle.std.specs.Option.{option_map_or}
 use Rattle.std.specs.Str.{str_eq_ignore_ascii_case}
 use Rattle.percent_encoding.specs.Percent.{percent_decode}
+use Rattle.rn_files.specs.Paths.{has_dots}
 use Rattle.rn_files.specs.Uris.{parts_of}
 use Rattle.rn_files.specs.declared.maps.Map.{Map}
 
@@ -59,15 +60,17 @@ is_file_scheme scheme = option_map_or (λ s. str_eq_ignore_ascii_case s (codes "
 abbrev pub has_no_host : Option (List ℕ) → Bool
 has_no_host authority = option_map_or (λ a. length a == 0) authority true
 
--- the path of a `file` URI that names no host (RFC 8089), with its escapes decoded
+-- the path of a `file` URI that names no host (RFC 8089), with its escapes decoded; then no segment of it is `.` or `..`
 pub record IsFilePath (uri path : List ℕ) : Type 0 where
   pub scheme : is_file_scheme (parts_of uri).scheme ≡ true
   pub host : has_no_host (parts_of uri).authority ≡ true
   pub rooted : slice_index (parts_of uri).path 0 ≡ 47
   pub path_is : path ≡ percent_decode (parts_of uri).path
+  pub plain : has_dots path ≡ false
 
--- the path that the URI stands for, and whether a map says so
+-- the path that the URI stands for, and whether a map says so: then it is below the map's folder, since no segment behind that is
+-- `.` or `..`
 abbrev pub IsLocation : List Map → List ℕ → List ℕ → Bool → Type 0
 IsLocation maps uri path is_mapped = MatchBool is_mapped
-    ((folder rest : List ℕ) × IsLongest maps uri folder rest × (path ≡ below folder rest))
+    ((folder rest : List ℕ) × IsLongest maps uri folder rest × (path ≡ below folder rest) × (has_dots (percent_decode rest) ≡ false))
     (HasNoMap maps uri × IsFilePath uri path)
