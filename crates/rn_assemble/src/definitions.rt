@@ -1,5 +1,5 @@
 // The grammar to which the components of all keys are joined.
-ghost use Rattle.std.specs.Prelude.{◌≡◌, ◌∷◌, ◌++◌, [], false, true, bytes_eq, map, List, MatchResult, OnOk};
+ghost use Rattle.std.specs.Prelude.{◌≡◌, ◌∷◌, ◌++◌, [], false, true, bytes_eq, map, MatchResult, OnOk};
 ghost use Rattle.std.specs.List.{list_any};
 ghost use Rattle.rn_text.specs.Texts.{Text};
 ghost use Rattle.rn_pattern.specs.Tree.{Tree};
@@ -91,7 +91,8 @@ fn definitions(
     let mut firsts = Vec::with_capacity(alloc, defined.len())?;
     for number in 0..defined.len() {
         let key = defined[number];
-        if let Some(pattern) = combining.combine_or_note(alloc, keys, components, trees, key)? {
+        let pattern = combining.combine_or_note(alloc, keys, components, trees, key)?;
+        if let Some(pattern) = pattern {
             let found = components.firsts(alloc, key, met)?;
             firsts.push(found)?;
             define(alloc, &mut defs, keys.name(key), pattern)?;

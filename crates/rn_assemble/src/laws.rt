@@ -85,8 +85,8 @@ pub fn grammars_of_sets_are_well_formed()
         → ((r : Refusal) → ¬ Stands s r) → IsWellFormed (grammar_of modules) }
 {}
 
-/// Short texts take the places of URIs as another name takes that of each: known texts keep their order, and the
-/// namespaces and libraries that mean something by themselves keep their own texts.
+/// A table of short texts is a renaming: known texts are in the order of their URIs, and URIs that mean something by
+/// themselves keep their texts.
 pub fn tables_rename()
     ensures { (es : ShortTexts) → IsTable es → IsRenaming (long_uri es) (IsKnown es) }
 {}

@@ -150,6 +150,7 @@ module _ (names : List Text) (sorted : IsStrictlySortedBy text_cmp names) (cs : 
         held number order (get_or keys k 0) k (o.listed x (get_or keys k 0) r h.key_is) h.number_is
 
     reached : (i : ℕ) (x : Text) → i < length made → number_of ds x ≡ Some (get_or made i 0) → ∥ IsReached G x ∥₁
+    unfolding placed
     reached i x l e =
         let m : i < length order = omega (arith, l, length-map order number) in
         let r = o.reached (get_or order i 0) (Contains-get_or order i 0 m) in

@@ -9,8 +9,8 @@ use Rattle.rn_assemble.specs.inside.Views.{names_of}
 use Rattle.rn_assemble.proofs.Answering.ReferenceRefusals.{name_there}
 use Rattle.rn_assemble.proofs.assembly.check_references.Goals as goal
 
-pub returns-in_ok-from_str-in-Recursive : goal.returns-in_ok-from_str-in-Recursive
-returns-in_ok-from_str-in-Recursive c = λ live h o d.
+pub returns : goal.returns
+returns c = λ live h o d.
     let names = names_of c.args.keys.now in
     let cs = components_in live in
     let found = c.in_ok-references.ensures.found live h o d in
