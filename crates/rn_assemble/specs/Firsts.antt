@@ -1,9 +1,6 @@
 -- Members of a joined list that are the same as an earlier one (RELAX NG 2001, 4.17).
-use Rattle.std.specs.Prelude.{ℕ, ◌≡◌, ◌≤◌, ◌<◌, List, [], length, map, slice_get, slice_index_or, Some, Vec}
-use Rattle.std.specs.declared.alloc.Global.{Global}
-use Rattle.rn_pattern.specs.Graph.{row}
+use Rattle.std.specs.Prelude.{ℕ, ◌≡◌, ◌≤◌, List, [], slice_get, slice_index_or, Some}
 use Rattle.rn_pattern.specs.Tree.{Tree, interleave, choice, list_of}
-use Rattle.rn_text.specs.Texts.{Text}
 
 -- the members of the list that several components are joined to
 abbrev pub joined_members : Tree → List Tree
@@ -18,7 +15,3 @@ AreFirstsBy Same firsts members = (i j : ℕ) (p : Tree) → slice_get firsts i 
 
 abbrev pub AreFirsts : List ℕ → List Tree → Type 0
 AreFirsts = AreFirstsBy (λ p q. p ≡ q)
-
--- of each number, the first places of the members of the definition with it
-abbrev pub HaveFirsts : List (Vec ℕ Global) → List (Text × Tree) → Type 0
-HaveFirsts firsts ds = (n : ℕ) (d : Text × Tree) → n < length ds → AreFirsts (row (map (λ v. v.items) firsts) n) (joined_members (slice_index_or ds n d).1)
