@@ -54,7 +54,7 @@ ln -s /dev/null in/null.rnc
 ln -s sub in/inner
 ln -s ../out/there.rnc map/there.rnc
 ln -s ../in/sub/x.rnc map/x.rnc
-printf 'x = empty\n' >in/sub/x.rnc
+printf 'x = text\n' >in/sub/x.rnc
 chmod 0 out/locked
 # with a root folder each of these has one sentence and one status, whether something is there or not
 for literal in ../out/there.rnc ../out/none.rnc ../out ../out/there.rnc/x ../out/locked/x.rnc ../out/locked /etc/passwd /etc/shadow/x /etc/nothing/x / \
@@ -71,14 +71,14 @@ refused 'missing below a folder of the root' 3 'no such file' sub/none.rnc --roo
 refused 'folder below the root' 3 'this is a folder' sub --root in
 # links may lead from place to place below the root, and from a map into it; without a root anywhere
 printf 'include "inner/x.rnc"\nstart = x\n' >in/m.rnc
-row 'a link within the root' 0 'default namespace = ""\nstart = x\nx = empty\n' '' --root in in/m.rnc
+row 'a link within the root' 0 'default namespace = ""\nstart = x\nx = text\n' '' --root in in/m.rnc
 printf 'include "http://m/x.rnc"\nstart = x\n' >in/m.rnc
-row 'a link from the map into the root' 0 'default namespace = ""\nstart = x\nx = empty\n' '' --root in --map http://m/=map in/m.rnc
-printf 'x = empty\n' >out/there.rnc
+row 'a link from the map into the root' 0 'default namespace = ""\nstart = x\nx = text\n' '' --root in --map http://m/=map in/m.rnc
+printf 'x = text\n' >out/there.rnc
 printf 'include "http://m/there.rnc"\nstart = x\n' >in/m.rnc
-row 'a link from the map without a root' 0 'default namespace = ""\nstart = x\nx = empty\n' '' --map http://m/=map in/m.rnc
+row 'a link from the map without a root' 0 'default namespace = ""\nstart = x\nx = text\n' '' --map http://m/=map in/m.rnc
 printf 'include "there.rnc"\nstart = x\n' >in/m.rnc
-row 'a link without a root' 0 'default namespace = ""\nstart = x\nx = empty\n' '' in/m.rnc
+row 'a link without a root' 0 'default namespace = ""\nstart = x\nx = text\n' '' in/m.rnc
 row 'an argument outside' 1 '' "rnc-flat: error: out/there.rnc: $outside\n" --root in out/there.rnc
 chmod 700 out/locked
 
@@ -93,15 +93,15 @@ printf '#!/bin/sh\nexec timeout 20 "%s" "$@"\n' "$program" >"$work/timed"
 chmod +x "$work/timed"
 untimed=$program
 program=$work/timed
-refuses 'a pipe' 3 "$special" p.fifo
-refuses 'a pipe and a root' 3 "$special" p.fifo --root in
-refuses 'a pipe that a map finds' 3 "$special" http://m/p.fifo --map http://m/=in
-refuses 'a link to a pipe' 3 "$special" link.fifo
-refuses 'a device' 3 "$special" /dev/zero
-refuses 'a terminal' 3 "$special" /dev/ptmx
+refused 'a pipe' 3 "$special" p.fifo
+refused 'a pipe and a root' 3 "$special" p.fifo --root in
+refused 'a pipe that a map finds' 3 "$special" http://m/p.fifo --map http://m/=in
+refused 'a link to a pipe' 3 "$special" link.fifo
+refused 'a device' 3 "$special" /dev/zero
+refused 'a terminal' 3 "$special" /dev/ptmx
 if command -v python3 >/dev/null; then
     python3 -c 'import socket; socket.socket(socket.AF_UNIX).bind("in/s.sock")'
-    refuses 'a socket' 3 "$special" s.sock
+    refused 'a socket' 3 "$special" s.sock
 fi
 printf 'start = text\n' >in/m.rnc
 row 'a pipe as an argument' 0 "$schema" '' <(cat in/m.rnc)

@@ -180,9 +180,7 @@ fn is_hidden<F: Files>(
     leads: &Location,
 ) -> Result<bool, AllocError> {
     match ways.root {
-        Some(root) if !leads.is_mapped => {
-            may_lead_out(alloc, files, root, leads.path.as_str())
-        }
+        Some(root) if !leads.is_mapped => { may_lead_out(alloc, files, root, leads.path.as_str()) }
         _ => Ok(false),
     }
 }
