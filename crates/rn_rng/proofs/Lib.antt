@@ -8,3 +8,5 @@ pub mod WellNamedElements
 pub mod Meaning
 pub mod Refusals
 pub mod DeclaredUris
+pub mod ReadableTrees
+pub mod ReadableNames

@@ -8,12 +8,15 @@ use Rattle.rn_syntax.specs.declared.tree.Pat.{Pat}
 use Rattle.rn_syntax.specs.declared.tree.Item.{Item}
 use Rattle.rn_syntax.specs.declared.tree.Param.{Param}
 use Rattle.rn_syntax.specs.Tree as t
-use Rattle.rn_syntax.specs.Tree.{Declaration, Pattern, NameClass, classes_of, patterns_of, items_of}
+use Rattle.rn_syntax.specs.Tree.{AnyName, Declaration, Pattern, NameClass, classes_of, patterns_of, items_of}
+use Rattle.rn_syntax.specs.declared.token.Operator.{Operator}
+use Rattle.rn_syntax.specs.declared.token.Operator.TheVariants as o
+use Rattle.rn_syntax.specs.declared.token.Postfix.TheVariants as r
 use Rattle.rn_syntax.specs.View.{class_view, pattern_view, item_view, params_view}
 use Rattle.rn_rng.specs.declared.lines.Writer.{Writer}
 use Rattle.rn_rng.specs.Elements.{Attributes, Element, Elements, parent, leaf, no_elements, more_elements, one_element, joined}
 use Rattle.rn_rng.specs.Layout.{deeper, element_text, elements_text, end_line, indent, tag_front}
-use Rattle.rn_rng.specs.Translation.{class_elements, pattern_elements, items_elements, item_elements, param_elements, unwrapped}
+use Rattle.rn_rng.specs.Translation.{any_attributes, any_element, attribute_content, chosen, class_element, class_elements, connector, inherited_in_any, pattern_element, pattern_elements, items_elements, param_elements, unwrapped}
 use Rattle.rn_rng.specs.inside.Writes.{Writes}
 use Rattle.rn_rng.proofs.Writing.{writes_then, writes_as}
 use Rattle.rn_rng.proofs.Rows.{elements_text-joined}
@@ -81,3 +84,104 @@ no_items_left ds (x ∷ xs) e = absurd (let y = eqb-suc-zero (length xs) in cc)
 pub params_some : (ps : List Param) → nat_eq (length ps) 0 ≡ false → HasSome (param_elements (params_view ps))
 params_some [] e = absurd cc
 params_some (p ∷ ps) e = tt
+
+-- ---- name classes
+
+pub writes_all_but : (ds : List Declaration) (own around : Text) (a : AnyName) (c : NameClass) (level k : ℕ) (ns : Text) {w x y z : Writer} → k ≡ deeper level → ns ≡ inherited_in_any ds a around
+    → Writes ((indent level ++ tag_front (any_element a) (any_attributes ds a)) ++ 62 ∷ 10 ∷ []) w x
+    → Writes (element_text k (parent (codes "except") [] (chosen (class_element ds own ns c)))) x y
+    → Writes (indent level ++ end_line (any_element a)) y z → Writes (element_text level (class_element ds own around (t.all_but a c))) w z
+writes_all_but ds own around a c level k ns e f h i j =
+    let x = parent (codes "except") [] (chosen (class_element ds own (inherited_in_any ds a around) c)) in
+    writes_parent level (any_element a) (any_attributes ds a) (one_element x) tt h
+    (writes_one (deeper level) x (writes_as (λ i. element_text (e i) (parent (codes "except") [] (chosen (class_element ds own (f i) c)))) i)) j
+
+-- the members of a choice that has some, and what is no choice
+pub chosen_members : (ds : List Declaration) (own around : Text) (cs : List Nc) → nat_eq (length cs) 0 ≡ false
+    → class_elements ds own around (classes_of (map class_view cs)) ≡ chosen (parent (codes "choice") [] (class_elements ds own around (classes_of (map class_view cs))))
+chosen_members ds own around [] e = absurd cc
+chosen_members ds own around (c ∷ cs) e = refl
+
+abbrev pub IsNoChoice : NameClass → Type 0
+IsNoChoice (t.choice cs) = ⊥
+IsNoChoice c = Unit {0}
+
+pub chosen_alone : (ds : List Declaration) (own around : Text) (c : NameClass) → IsNoChoice c → one_element (class_element ds own around c) ≡ chosen (class_element ds own around c)
+chosen_alone ds own around (t.name n) h = refl
+chosen_alone ds own around (t.all a) h = refl
+chosen_alone ds own around (t.all_but t.any c) h = refl
+chosen_alone ds own around (t.all_but (t.any_of p i) c) h = refl
+chosen_alone ds own around (t.choice cs) h = absurd h
+
+-- ---- patterns
+
+pub unwrapped_members : (ds : List Declaration) (around lib : Text) (op : Operator) (ps : List Pat) → nat_eq (length ps) 0 ≡ false
+    → pattern_elements ds around lib (patterns_of (map pattern_view ps)) ≡ unwrapped (connector op) (parent (connector op) [] (pattern_elements ds around lib (patterns_of (map pattern_view ps))))
+unwrapped_members ds around lib op [] e = absurd cc
+unwrapped_members ds around lib o.Comma (p ∷ ps) e = refl
+unwrapped_members ds around lib o.Ampersand (p ∷ ps) e = refl
+unwrapped_members ds around lib o.Bar (p ∷ ps) e = refl
+
+kept_other : (w n : Text) (attrs : Attributes) (xs : Elements) → bytes_eq n w ≡ false → one_element (parent n attrs xs) ≡ unwrapped w (parent n attrs xs)
+kept_other w n attrs no_elements e = refl
+kept_other w n attrs (more_elements x xs) e = sym (ap (λ b. if b then more_elements x xs else one_element (parent n attrs (more_elements x xs))) e)
+
+not_wrapper : (w : Operator) (n : Text) → bytes_eq n (codes "group") ≡ false → bytes_eq n (codes "interleave") ≡ false → bytes_eq n (codes "choice") ≡ false → bytes_eq n (connector w) ≡ false
+not_wrapper o.Comma n a b c = a
+not_wrapper o.Ampersand n a b c = b
+not_wrapper o.Bar n a b c = c
+
+-- one of another kind stays
+pub unwrapped_other : (w op : Operator) (xs : Elements) → (op ≡ w → ⊥) → one_element (parent (connector op) [] xs) ≡ unwrapped (connector w) (parent (connector op) [] xs)
+unwrapped_other o.Comma o.Comma xs n = absurd (n refl)
+unwrapped_other o.Comma o.Ampersand xs n = kept_other _ _ [] xs refl
+unwrapped_other o.Comma o.Bar xs n = kept_other _ _ [] xs refl
+unwrapped_other o.Ampersand o.Comma xs n = kept_other _ _ [] xs refl
+unwrapped_other o.Ampersand o.Ampersand xs n = absurd (n refl)
+unwrapped_other o.Ampersand o.Bar xs n = kept_other _ _ [] xs refl
+unwrapped_other o.Bar o.Comma xs n = kept_other _ _ [] xs refl
+unwrapped_other o.Bar o.Ampersand xs n = kept_other _ _ [] xs refl
+unwrapped_other o.Bar o.Bar xs n = absurd (n refl)
+
+abbrev pub IsNoChain : Pattern → Type 0
+IsNoChain (t.chain op ps) = ⊥
+IsNoChain p = Unit {0}
+
+-- what is no chain stays, whatever the wrapper
+pub unwrapped_alone : (ds : List Declaration) (around lib : Text) (w : Operator) (p : Pattern) → IsNoChain p
+    → one_element (pattern_element ds around lib p) ≡ unwrapped (connector w) (pattern_element ds around lib p)
+unwrapped_alone ds around lib w (t.element c p) h = kept_other _ _ _ _ (not_wrapper w (codes "element") refl refl refl)
+unwrapped_alone ds around lib w (t.attribute c p) h = kept_other _ _ _ _ (not_wrapper w (codes "attribute") refl refl refl)
+unwrapped_alone ds around lib w (t.list p) h = kept_other _ _ _ _ (not_wrapper w (codes "list") refl refl refl)
+unwrapped_alone ds around lib w (t.mixed p) h = kept_other _ _ _ _ (not_wrapper w (codes "mixed") refl refl refl)
+unwrapped_alone ds around lib w t.empty h = refl
+unwrapped_alone ds around lib w t.not_allowed h = refl
+unwrapped_alone ds around lib w t.text h = refl
+unwrapped_alone ds around lib w (t.ref x) h = refl
+unwrapped_alone ds around lib w (t.value d s) h = refl
+unwrapped_alone ds around lib w (t.datum d ps) h = kept_other _ _ _ _ (not_wrapper w (codes "data") refl refl refl)
+unwrapped_alone ds around lib w (t.datum_but d ps i p) h = kept_other _ _ _ _ (not_wrapper w (codes "data") refl refl refl)
+unwrapped_alone ds around lib w (t.repeated r.Question p) h = kept_other _ _ _ _ (not_wrapper w (codes "optional") refl refl refl)
+unwrapped_alone ds around lib w (t.repeated r.Star p) h = kept_other _ _ _ _ (not_wrapper w (codes "zeroOrMore") refl refl refl)
+unwrapped_alone ds around lib w (t.repeated r.Plus p) h = kept_other _ _ _ _ (not_wrapper w (codes "oneOrMore") refl refl refl)
+unwrapped_alone ds around lib w (t.chain op ps) h = absurd h
+
+-- a pattern that is not `text` is the content of an attribute
+abbrev pub IsNoText : Pattern → Type 0
+IsNoText t.text = ⊥
+IsNoText p = Unit {0}
+
+pub content_alone : (p : Pattern) (x : Element) → IsNoText p → one_element x ≡ attribute_content p x
+content_alone (t.element c p) x h = refl
+content_alone (t.attribute c p) x h = refl
+content_alone (t.list p) x h = refl
+content_alone (t.mixed p) x h = refl
+content_alone t.empty x h = refl
+content_alone t.not_allowed x h = refl
+content_alone t.text x h = absurd h
+content_alone (t.ref n) x h = refl
+content_alone (t.value d s) x h = refl
+content_alone (t.datum d ps) x h = refl
+content_alone (t.datum_but d ps i p) x h = refl
+content_alone (t.repeated s p) x h = refl
+content_alone (t.chain op ps) x h = refl

@@ -112,7 +112,7 @@ mutual
   -- between white space
   elements_written : (before after : Text) (level : ℕ) (ys : Elements) → IsWhite before → IsWhite after → AreWellNamed ys
       → AreElements (before ++ (elements_text level ys ++ after)) ys
-  elements_written before after level no_elements b a h = x.none (all_append is_white before after b a)
+  elements_written before after level no_elements b a h = x.none (before ++ after) (all_append is_white before after b a)
   elements_written before after level (more_elements y ys) b a h =
       let rest = elements_text level ys in
       let e : (before ++ indent level) ++ (tagged level y ++ ((10 ∷ []) ++ (rest ++ after))) ≡ before ++ ((element_text level y ++ rest) ++ after) =
@@ -123,7 +123,7 @@ mutual
       ∙ ap (λ t. t ++ (rest ++ after)) (sym (text_is_tagged level y))
       ∙ sym (append_assoc (element_text level y) rest after)) in
       subst (λ t. AreElements t (more_elements y ys)) e
-      (x.more (all_append is_white before (indent level) b (white_indent level)) (element_written level y h.0) (elements_written (10 ∷ []) after level ys refl a h.1))
+      (x.more (before ++ indent level) (all_append is_white before (indent level) b (white_indent level)) (element_written level y h.0) (elements_written (10 ∷ []) after level ys refl a h.1))
 
 -- ---- documents
 

@@ -78,8 +78,8 @@ mutual
 
   -- [43] content, where there are elements
   pub data AreElements : Text → Elements → Type 0 where
-    none : {s : Text} → IsWhite s → AreElements s no_elements
-    more : {s t rest : Text} {x : Element} {xs : Elements} → IsWhite s → IsElement t x → AreElements rest xs
+    none : (s : Text) → IsWhite s → AreElements s no_elements
+    more : (s : Text) {t rest : Text} {x : Element} {xs : Elements} → IsWhite s → IsElement t x → AreElements rest xs
         → AreElements (s ++ (t ++ rest)) (more_elements x xs)
 
 -- the namespace of RELAX NG as the default one, which all elements below have too (Namespaces in XML, 6.2)

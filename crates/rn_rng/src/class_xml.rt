@@ -219,11 +219,30 @@ fn write_excepted(
         (uri_view ds place.namespace) (class_view except.now)))) writer.old writer.new }
 {
     match except {
-        Nc::Choice(members) if !members.is_empty() => {
-            write_classes(writer, namespaces, place, own, members);
-        }
+        Nc::Choice(members) => write_members(writer, namespaces, place, own, members),
         _ => write_class(writer, namespaces, place, own, except),
     }
+}
+
+/// Writes the members of a choice that stands in a choice anyhow; one without members as itself.
+#[cycle(class)]
+fn write_members(
+    writer: &mut Writer,
+    namespaces: &Namespaces<'_, '_>,
+    place: Place,
+    own: UriSource,
+    members: &[Nc<'_>],
+)
+    ensures { let ds = declared namespaces.now in
+        Writes (elements_text place.level (chosen (parent (codes "choice") []
+        (class_elements ds (uri_view ds own) (uri_view ds place.namespace)
+        (classes_view members.now))))) writer.old writer.new }
+{
+    if members.is_empty() {
+        writer.empty_bare(place.level, "choice");
+        return;
+    }
+    write_classes(writer, namespaces, place, own, members);
 }
 
 /// Writes name classes one after the other.

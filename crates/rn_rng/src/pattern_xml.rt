@@ -4,7 +4,7 @@ ghost use Rattle.rn_syntax.specs.Tree as tree;
 ghost use Rattle.rn_syntax.specs.View.{class_view, datatype_view, params_view, pattern_view, patterns_view};
 ghost use Rattle.rn_rng.specs.Elements.{no_elements, parent};
 ghost use Rattle.rn_rng.specs.Layout.{deeper, element_text, elements_text, indent, tag_front};
-ghost use Rattle.rn_rng.specs.Translation.{attribute_content, chosen, connector, grouped, inherited_in, pattern_element, pattern_elements, repetition};
+ghost use Rattle.rn_rng.specs.Translation.{attribute_content, chosen, connector, grouped, inherited_in, pattern_element, pattern_elements, repetition, unwrapped};
 ghost use Rattle.rn_rng.specs.inside.Namespaces.{declared, uri_view};
 ghost use Rattle.rn_rng.specs.inside.Names.{name_attributes};
 ghost use Rattle.rn_rng.specs.inside.Tags.{attributes_view};
@@ -164,15 +164,16 @@ fn write_element(
         Some(name) => {
             let inside = open_named(writer, &*namespaces, place, "element", place.namespace, name);
             write_members(writer, namespaces, inside, &named.content);
+            writer.close(place.level, "element");
         }
         None => {
             writer.open_bare(place.level, "element");
             let inside = place.inside();
             write_class(writer, namespaces, inside, own, &named.class);
             write_members(writer, namespaces, inside, &named.content);
+            writer.close(place.level, "element");
         }
     }
-    writer.close(place.level, "element");
 }
 
 /// Writes an attribute; a name without prefix is in no namespace.
@@ -190,22 +191,43 @@ fn write_attribute(
 {
     let own = UriSource::Empty;
     match one_name(namespaces, own, &named.class) {
-        Some(name) if matches!(named.content, Pat::Text) => {
-            write_text_attribute(writer, &*namespaces, place.level, name);
-            return;
-        }
-        Some(name) => {
-            let inside = open_named(writer, &*namespaces, place, "attribute", own, name);
-            write_pattern(writer, namespaces, inside, &named.content);
-        }
+        Some(name) => write_named_attribute(writer, namespaces, place, name, &named.content),
         None => {
             writer.open_bare(place.level, "attribute");
             let inside = place.inside();
             write_class(writer, namespaces, inside, own, &named.class);
             write_content(writer, namespaces, inside, &named.content);
+            writer.close(place.level, "attribute");
         }
     }
-    writer.close(place.level, "attribute");
+}
+
+/// Writes an attribute with a name.
+#[cycle(pattern)]
+fn write_named_attribute(
+    writer: &mut Writer,
+    namespaces: &Namespaces<'_, '_>,
+    place: Place,
+    name: QualifiedName<'_>,
+    content: &Pat<'_>,
+)
+    ensures { let ds = declared namespaces.now in let lib = uri_view ds place.library in
+        let around = inherited_in [] (uri_view ds name.entry.namespace)
+        (uri_view ds place.namespace) in
+        Writes (element_text place.level (parent (codes "attribute")
+        (name_attributes ds UriSource.Empty name.entry)
+        (attribute_content (pattern_view content.now)
+        (pattern_element ds around lib (pattern_view content.now))))) writer.old writer.new }
+{
+    match content {
+        Pat::Text => write_text_attribute(writer, &*namespaces, place.level, name),
+        _ => {
+            let own = UriSource::Empty;
+            let inside = open_named(writer, &*namespaces, place, "attribute", own, name);
+            write_pattern(writer, namespaces, inside, content);
+            writer.close(place.level, "attribute");
+        }
+    }
 }
 
 /// Writes the content of an attribute behind its name class: nothing for any text (RELAX NG 2001, 4.12).
@@ -221,8 +243,9 @@ fn write_content(
         Writes (elements_text place.level (attribute_content (pattern_view content.now)
         (pattern_element ds around lib (pattern_view content.now)))) writer.old writer.new }
 {
-    if !matches!(content, Pat::Text) {
-        write_pattern(writer, namespaces, place, content);
+    match content {
+        Pat::Text => {}
+        _ => write_pattern(writer, namespaces, place, content),
     }
 }
 
@@ -259,11 +282,39 @@ pub(crate) fn write_members(
         (grouped (pattern_element ds around lib (pattern_view content.now)))) writer.old writer.new }
 {
     match content {
-        Pat::Chain(Operator::Comma, members) if !members.is_empty() => {
-            write_patterns(writer, namespaces, place, members);
+        Pat::Chain(operator, members) => {
+            write_unwrapped(writer, namespaces, place, Operator::Comma, *operator, members);
         }
         _ => write_pattern(writer, namespaces, place, content),
     }
+}
+
+/// Writes a group, an interleave or a choice where it stands in one of the wrapper's kind anyhow: the members of one of
+/// this kind, if it has some, and any other as itself.
+#[cycle(pattern)]
+fn write_unwrapped(
+    writer: &mut Writer,
+    namespaces: &Namespaces<'_, '_>,
+    place: Place,
+    wrapper: Operator,
+    operator: Operator,
+    members: &[Pat<'_>],
+)
+    ensures { let ds = declared namespaces.now in let around = uri_view ds place.namespace in
+        let lib = uri_view ds place.library in
+        Writes (elements_text place.level (unwrapped (connector wrapper)
+        (parent (connector operator) [] (pattern_elements ds around lib
+        (patterns_view members.now))))) writer.old writer.new }
+{
+    if members.is_empty() {
+        writer.empty_bare(place.level, connector(operator));
+        return;
+    }
+    if operator == wrapper {
+        write_patterns(writer, namespaces, place, members);
+        return;
+    }
+    write_chain(writer, namespaces, place, connector(operator), members);
 }
 
 /// Writes a group, an interleave or a choice.
@@ -343,8 +394,8 @@ fn write_excepted(
         (chosen (pattern_element ds around lib (pattern_view except.now)))) writer.old writer.new }
 {
     match except {
-        Pat::Chain(Operator::Bar, members) if !members.is_empty() => {
-            write_patterns(writer, namespaces, place, members);
+        Pat::Chain(operator, members) => {
+            write_unwrapped(writer, namespaces, place, Operator::Bar, *operator, members);
         }
         _ => write_pattern(writer, namespaces, place, except),
     }
