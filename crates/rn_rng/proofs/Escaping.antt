@@ -1,17 +1,16 @@
 -- References for characters, where texts are bytes.
-use Rattle.std.proofs.Common.{◌≡◌, ◌⊎◌, ℕ, ◌+◌, ◌<◌, ◌≤◌, List, [], ◌∷◌, ◌++◌, length, get_or, take, refl, sym, ap, ◌∙◌, subst, append-nil, append_assoc, true, false, Bool, suc, zero, ⊎_elim, arith}
-use Rattle.std.specs.Prelude.{flat_map, encode_utf8, MatchOption, Option, Some, None, not, ◌&&◌, ◌||◌, ◌==◌}
-use Rattle.std.specs.Borrow.{Bor}
+use Rattle.std.proofs.Common.{◌≡◌, ◌⊎◌, ℕ, ◌+◌, ◌<◌, ◌≤◌, List, [], ◌∷◌, ◌++◌, length, get_or, take, refl, sym, ap, ◌∙◌, append-nil, true, false, Bool, suc, zero, ⊎_elim, arith}
+use Rattle.std.specs.Prelude.{flat_map, encode_utf8, ◌&&◌}
 use Rattle.std.specs.List.{list_all}
 use Rattle.std.specs.Str.{IsUtf8, chars, encode_utf8_all}
 use Rattle.std.proofs.lemmas.Bool.Decides.{nat_tests}
-use Rattle.std.proofs.lemmas.Grind.{flat_map-append, common_steps}
+use Rattle.std.proofs.lemmas.Grind.{flat_map-append}
 use Rattle.std.proofs.lemmas.List.{take_more, take_all, length_push}
 use Rattle.std.proofs.lemmas.Str.{encode_ascii, encodes-append, encodes-chars, inside_one}
 use Rattle.rn_text.specs.Texts.{Text}
 use Rattle.rn_rng.specs.declared.escapes.Holder.{Holder}
 use Rattle.rn_rng.specs.declared.escapes.Holder.TheVariants as h
-use Rattle.rn_rng.specs.Layout.{text_escape, value_escape, indent}
+use Rattle.rn_rng.specs.Layout.{indent}
 use Rattle.rn_rng.specs.inside.Escapes.{escape, escaped, is_plain_byte}
 use Rattle.rn_rng.specs.declared.lines.Writer.{Writer}
 use Rattle.rn_rng.specs.inside.Writes.{Writes}

@@ -3,6 +3,8 @@ pub mod Escaping
 pub mod Rows
 pub mod WrittenLines
 pub mod Parents
+pub mod TwoTests
+pub mod WellNamed
 pub mod XmlWritten
 pub mod WellNamedElements
 pub mod Meaning

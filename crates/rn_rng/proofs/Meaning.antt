@@ -1,61 +1,57 @@
 -- What the standard makes of the elements of a module is the module's grammar.
-use Rattle.std.proofs.Common.{◌≡◌, List, [], ◌∷◌, ◌++◌, true, false, Bool, refl, sym, ap, ◌∙◌, append-nil, append_assoc}
+use Rattle.std.proofs.Common.{◌≡◌, List, [], ◌∷◌, ◌++◌, true, false, Bool, refl, sym, ap, ◌∙◌}
 use Rattle.std.specs.Prelude.{◌==◌, ◌||◌, ◌&&◌, not, if◌then◌else◌, Option, Some, None, option_and_then, unwrap_or, codes, bytes_eq}
 use Rattle.std.specs.List.{list_all, list_any}
 use Rattle.std.specs.Option.{option_map}
 use Rattle.std.proofs.lemmas.Slice.Eq.{bytes_eq-Decides}
 use Rattle.rn_text.specs.Texts.{Text, is_white}
-use Rattle.rn_pattern.specs.Opened.{pair, one_or_node}
+use Rattle.rn_pattern.specs.Opened.{pair}
 use Rattle.rn_pattern.specs.Tree as k
-use Rattle.rn_pattern.specs.Tree.{NameTree, NameTrees, name, no_names, more_names, Tree, Trees, group, choice, interleave, no_trees, more_trees}
+use Rattle.rn_pattern.specs.Tree.{NameTree, name, no_names, more_names, Tree, Trees, group, choice, interleave, no_trees, more_trees}
 use Rattle.rn_syntax.specs.declared.token.Method.{Method}
 use Rattle.rn_syntax.specs.declared.token.Method.TheVariants as m
-use Rattle.rn_syntax.specs.declared.token.Operator.{Operator}
 use Rattle.rn_syntax.specs.declared.token.Operator.TheVariants as o
 use Rattle.rn_syntax.specs.declared.token.Postfix.{Postfix}
 use Rattle.rn_syntax.specs.declared.token.Postfix.TheVariants as r
 use Rattle.rn_syntax.specs.Places.{xml_uri, xsd_uri}
 use Rattle.rn_syntax.specs.Tree as t
-use Rattle.rn_syntax.specs.Tree.{Name, AnyName, NameClass, NameClasses, Datatype, Params, Pattern, Patterns, Declaration, Item, Items, Module}
-use Rattle.rn_assemble.specs.Components.{Component, all_components, item_components}
+use Rattle.rn_syntax.specs.Tree.{NameClass, NameClasses, Datatype, Params, Pattern, Patterns, Declaration, Items, Module}
+use Rattle.rn_assemble.specs.Components.{all_components, item_components}
 use Rattle.rn_assemble.specs.Combine.{joined_grammar, module_grammar}
 use Rattle.rn_assemble.specs.Resolve.{default_of, namespace_of, resolved_class, resolved_classes, resolved_pattern, resolved_patterns, type_library, type_name}
 use Rattle.rn_rng.specs.Elements.{Attributes, Element, Elements, parent, leaf, no_elements, more_elements, one_element, joined}
-use Rattle.rn_rng.specs.Readable.{AreReadableClasses, AreReadableItems, AreReadablePatterns, ArePlainParams, IsPlain, IsPlainType, IsReadable, IsReadableClass, IsReadableItem, IsReadablePattern, is_separator}
+use Rattle.rn_rng.specs.Readable.{AreReadableClasses, AreReadableItems, AreReadablePatterns, ArePlainParams, IsPlain, IsPlainType, IsReadable, IsReadableClass, IsReadablePattern, is_separator}
 use Rattle.rn_rng.specs.Simplified as s
-use Rattle.rn_rng.specs.Simplified.{Part, Parts, parameter, excepted, attribute_of, both, chosen_names, chosen_trees, grammar_of, grouped_trees, has_colon, inherited, one_or_more_of, or_text, pattern_of, qualified_name, read_class, read_classes, read_except, read_item, read_items, read_part, read_parts, read_pattern, read_patterns, trimmed, with_part, without_leading, without_trailing}
+use Rattle.rn_rng.specs.Simplified.{parameter, excepted, attribute_of, both, chosen_names, chosen_trees, grammar_of, grouped_trees, has_colon, inherited, one_or_more_of, or_text, pattern_of, qualified_name, read_class, read_classes, read_item, read_items, read_part, read_parts, read_pattern, read_patterns, trimmed, with_part, without_leading, without_trailing}
+use Rattle.rn_rng.proofs.TwoTests.{neither_passes}
 use Rattle.rn_rng.proofs.Parents.{HasSome, joined_some, unwrapped_some}
 use Rattle.rn_rng.specs.Translation as written
-use Rattle.rn_rng.specs.Translation.{any_attributes, any_element, attribute_content, chosen, class_attributes, class_child, class_element, class_elements, combine, connector, grouped, inherited_in, inherited_in_any, inherited_in_named, item_elements, items_elements, library_attribute, local_name, name_uri, needs_ns, ns_attribute, param_elements, pattern_element, pattern_elements, qualified, type_attributes, unwrapped, value_attributes, xml_of}
+use Rattle.rn_rng.specs.Translation.{attribute_content, chosen, class_element, class_elements, combine, grouped, inherited_in, items_elements, library_attribute, needs_ns, ns_attribute, param_elements, pattern_element, pattern_elements, qualified, type_attributes, unwrapped, xml_of}
 
 -- ---- names (4.2, 4.10)
-
-or_none : (a b : Bool) → (a || b) ≡ false → (a ≡ false) × (b ≡ false)
-or_none true b e = absurd cc
-or_none false b e = (refl, e)
 
 no_white_of : (x : Text) → IsPlain x → list_any is_white x ≡ false
 no_white_of [] h = refl
 no_white_of (c ∷ x) h =
-    let e = or_none (is_separator c) (list_any is_separator x) h in
-    let f = or_none (is_white c) (c == 58) e.0 in
+    let e = neither_passes (is_separator c) (list_any is_separator x) h in
+    let f = neither_passes (is_white c) (c == 58) e.0 in
     (λ i. f.0 i || no_white_of x e.1 i)
 
 no_colon_of : (x : Text) → IsPlain x → has_colon x ≡ false
 no_colon_of [] h = refl
 no_colon_of (c ∷ x) h =
-    let e = or_none (is_separator c) (list_any is_separator x) h in
-    let f = or_none (is_white c) (c == 58) e.0 in
+    let e = neither_passes (is_separator c) (list_any is_separator x) h in
+    let f = neither_passes (is_white c) (c == 58) e.0 in
     (λ i. f.1 i || no_colon_of x e.1 i)
 
 kept_leading : (x : Text) → list_any is_white x ≡ false → without_leading x ≡ x
 kept_leading [] h = refl
-kept_leading (c ∷ x) h = let e = or_none (is_white c) (list_any is_white x) h in ap (λ b. if b then without_leading x else c ∷ x) e.0
+kept_leading (c ∷ x) h = let e = neither_passes (is_white c) (list_any is_white x) h in ap (λ b. if b then without_leading x else c ∷ x) e.0
 
 kept_trailing : (x : Text) → list_any is_white x ≡ false → without_trailing x ≡ x
 kept_trailing [] h = refl
 kept_trailing (c ∷ x) h =
-    let e = or_none (is_white c) (list_any is_white x) h in
+    let e = neither_passes (is_white c) (list_any is_white x) h in
     ap (λ b. if b && list_all is_white x then [] else c ∷ without_trailing x) e.0 ∙ ap (λ y. c ∷ y) (kept_trailing x e.1)
 
 kept : (x : Text) → list_any is_white x ≡ false → trimmed x ≡ x

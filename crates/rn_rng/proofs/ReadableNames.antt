@@ -1,5 +1,5 @@
 -- The names of a text's tokens are plain.
-use Rattle.std.proofs.Common.{◌≡◌, ◌⊎◌, ℕ, ◌<◌, ◌≤◌, List, [], ◌∷◌, ◌++◌, length, get_or, drop, map, true, false, Bool, refl, sym, ap, ◌∙◌, subst, append-nil, suc, zero, ⊎_elim, arith}
+use Rattle.std.proofs.Common.{◌≡◌, ◌⊎◌, ℕ, ◌<◌, ◌≤◌, List, [], ◌∷◌, ◌++◌, length, get_or, drop, map, true, false, Bool, refl, sym, ap, ◌∙◌, subst, append-nil, suc, ⊎_elim, arith}
 use Rattle.std.specs.Prelude.{◌==◌, ◌||◌, ◌&&◌, cond, encode_utf8}
 use Rattle.std.specs.List.{AllByRecursion, list_all, list_any}
 use Rattle.std.specs.Str.{bytes_eq, chars, encode_utf8_all}
@@ -7,34 +7,30 @@ use Rattle.std.proofs.lemmas.Bool.Decides.{nat_tests}
 use Rattle.std.proofs.lemmas.Bool.{eqb-true}
 use Rattle.std.proofs.lemmas.Str.{encode_ascii, inside_one}
 use Rattle.rn_text.specs.Characters.{is_name_char, is_name_start, is_ncname}
-use Rattle.rn_text.specs.Texts.{Text, is_white}
+use Rattle.rn_text.specs.Texts.{Text}
 use Rattle.rn_text.specs.declared.keywords.Keyword.{Keyword}
 use Rattle.rn_text.specs.declared.parts.Kind.{Kind}
 use Rattle.rn_text.specs.declared.parts.Kind.TheVariants.{Name, Keyword as Word, Quoted, Prefixed, AnyOf, Segment, Symbol}
 use Rattle.rn_text.specs.Keywords.{every_keyword}
 use Rattle.rn_text.specs.Parts.{IsSpelled}
-use Rattle.rn_text.specs.Segments.{after_run, run_of}
-use Rattle.rn_text.specs.Tokens.{HasTokens, Lexeme}
+use Rattle.rn_text.specs.Segments.{after_run}
+use Rattle.rn_text.specs.Tokens.{Lexeme}
 use Rattle.rn_text.proofs.Cutting.NameTokens.{run_ends}
 use Rattle.rn_text.proofs.TokenLists.CutLexemes.{tokens_spelled}
-use Rattle.rn_syntax.specs.Terminal as t
 use Rattle.rn_syntax.specs.Terminal.{Terminal}
-use Rattle.rn_syntax.specs.TokenTerminals.{keyword_row, keyword_rows, placed, spelled_in, symbol_rows, terminal_of, terminals}
+use Rattle.rn_syntax.specs.TokenTerminals.{keyword_row, keyword_rows, spelled_in, symbol_rows, terminal_of, terminals}
 use Rattle.rn_syntax.specs.Tree.{Module}
 use Rattle.rn_assemble.specs.Refusal.{IsModuleOf}
 use Rattle.rn_rng.specs.Readable.{IsPlain, IsReadable, is_separator}
 use Rattle.rn_rng.specs.XmlTexts.{IsFlat}
+use Rattle.rn_rng.proofs.TwoTests.{both_pass, neither_passes}
 use Rattle.rn_rng.proofs.ReadableTrees.{AreGood, HasPlainNames, good_module}
 
 -- ---- characters of names
 
 none_of_both : (p : ℕ → Bool) (xs ys : Text) → list_any p xs ≡ false → list_any p ys ≡ false → list_any p (xs ++ ys) ≡ false
 none_of_both p [] ys h k = k
-none_of_both p (x ∷ xs) ys h k = let e = or_none (p x) (list_any p xs) h in (λ i. e.0 i || none_of_both p xs ys e.1 k i)
-  where
-  or_none : (a b : Bool) → (a || b) ≡ false → (a ≡ false) × (b ≡ false)
-  or_none true b e = absurd cc
-  or_none false b e = (refl, e)
+none_of_both p (x ∷ xs) ys h k = let e = neither_passes (p x) (list_any p xs) h in (λ i. e.0 i || none_of_both p xs ys e.1 k i)
 
 -- a character that no name has
 not_here : (c n : ℕ) → is_name_char n ≡ false → is_name_char c ≡ true → (c == n) ≡ false
@@ -67,14 +63,10 @@ plain_encoded c h = ⊎_elim
       (below_or (get_or (encode_utf8 c) k 0) 128)))
     (below_or c 128)
 
-both_true : (a b : Bool) → (a && b) ≡ true → (a ≡ true) × (b ≡ true)
-both_true true b e = (refl, e)
-both_true false b e = absurd cc
-
 plain_chars : (cs : List ℕ) → list_all is_name_char cs ≡ true → IsPlain (encode_utf8_all cs)
 plain_chars [] h = refl
 plain_chars (c ∷ cs) h =
-    let e = both_true (is_name_char c) (list_all is_name_char cs) h in
+    let e = both_pass (is_name_char c) (list_all is_name_char cs) h in
     none_of_both is_separator (encode_utf8 c) (encode_utf8_all cs) (plain_encoded c e.0) (plain_chars cs e.1)
 
 start_is_char : (c : ℕ) → is_name_start c ≡ true → is_name_char c ≡ true
@@ -83,7 +75,7 @@ start_is_char c h = grind (arith, nat_tests)
 
 name_chars : (cs : List ℕ) → is_ncname cs ≡ true → list_all is_name_char cs ≡ true
 name_chars [] h = absurd cc
-name_chars (c ∷ cs) h = let e = both_true (is_name_start c) (list_all is_name_char cs) h in (λ i. start_is_char c e.0 i && e.1 i)
+name_chars (c ∷ cs) h = let e = both_pass (is_name_start c) (list_all is_name_char cs) h in (λ i. start_is_char c e.0 i && e.1 i)
 
 plain_name : (cs : List ℕ) → is_ncname cs ≡ true → IsPlain (encode_utf8_all cs)
 plain_name cs h = plain_chars cs (name_chars cs h)

@@ -1,5 +1,5 @@
 -- Trees of tokens whose names are plain: their names are, and their chains have two members or more.
-use Rattle.std.proofs.Common.{◌≡◌, ℕ, List, [], ◌∷◌, ◌++◌, refl, false}
+use Rattle.std.proofs.Common.{◌≡◌, ℕ, List, [], ◌∷◌, ◌++◌, refl}
 use Rattle.rn_text.specs.declared.keywords.Keyword.{Keyword}
 use Rattle.rn_text.specs.declared.keywords.Keyword.TheVariants as k
 use Rattle.rn_text.specs.Keywords.{spelling}
@@ -8,7 +8,7 @@ use Rattle.rn_syntax.specs.Grammar.{Tokens, IsWord, IsLiteral, Closed, IsAnnotat
 use Rattle.rn_syntax.specs.Terminal.{Terminal, Placed, ◌#◌, ident, prefixed}
 use Rattle.rn_syntax.specs.declared.token.Operator.{Operator}
 use Rattle.rn_syntax.specs.Tree as t
-use Rattle.rn_syntax.specs.Tree.{Datatype, Params, NameClass, Pattern, Declaration, Item, Items, Module, classes_of, patterns_of, items_of, includes, item_includes}
+use Rattle.rn_syntax.specs.Tree.{Datatype, Params, NameClass, Pattern, Declaration, Item, Module, classes_of, patterns_of, items_of, includes, item_includes}
 use Rattle.rn_rng.specs.Readable.{ArePlainParams, AreReadableClasses, AreReadableItems, AreReadablePatterns, HasTwoClasses, HasTwoPatterns, IsPlain, IsPlainType, IsReadable, IsReadableClass, IsReadableItem, IsReadablePattern}
 
 -- the names of a terminal are plain

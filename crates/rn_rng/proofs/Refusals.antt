@@ -1,8 +1,7 @@
 -- Texts without tokens, and tokens that are no module.
 use Rattle.std.proofs.Common.{◌≡◌, List, sym, subst}
-use Rattle.std.specs.Str.{IsUtf8, chars}
 use Rattle.rn_text.specs.Texts.{Text}
-use Rattle.rn_text.specs.Tokens.{HasFault, HasTokens, Lexeme}
+use Rattle.rn_text.specs.Tokens.{HasFault}
 use Rattle.rn_text.specs.declared.source.Token.{Token}
 use Rattle.rn_text.specs.declared.source.TextFault.{TextFault}
 use Rattle.rn_text.specs.declared.source.TextFault.TheVariants as t

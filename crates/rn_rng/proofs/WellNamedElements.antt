@@ -13,10 +13,10 @@ use Rattle.rn_syntax.specs.declared.token.Postfix.TheVariants as r
 use Rattle.rn_syntax.specs.Places.{xsd_uri}
 use Rattle.rn_syntax.specs.Tree as t
 use Rattle.rn_syntax.specs.Tree.{AnyName, NameClass, NameClasses, Datatype, Params, Pattern, Patterns, Declaration, Item, Items, Module}
-use Rattle.rn_assemble.specs.Resolve.{default_of, type_library, type_name}
+use Rattle.rn_assemble.specs.Resolve.{default_of, type_library}
 use Rattle.rn_rng.specs.Elements.{Attributes, Element, Elements, parent, leaf, no_elements, more_elements, one_element, joined}
-use Rattle.rn_rng.specs.Translation.{any_attributes, any_element, attribute_content, chosen, class_attributes, class_child, class_element, class_elements, combine, connector, grouped, inherited_in_any, inherited_in_named, item_elements, items_elements, library_attribute, name_uri, needs_ns, ns_attribute, param_elements, pattern_element, pattern_elements, repetition, type_attributes, unwrapped, value_attributes, xml_of}
-use Rattle.rn_rng.specs.WellNamed.{AreWellNamed, HasXmlNames, IsWellNamed, IsWellNamedRoot}
+use Rattle.rn_rng.specs.Translation.{any_attributes, any_element, attribute_content, chosen, class_attributes, class_child, class_element, class_elements, combine, connector, grouped, inherited_in_any, inherited_in_named, item_elements, items_elements, name_uri, needs_ns, ns_attribute, param_elements, pattern_element, pattern_elements, repetition, type_attributes, unwrapped, value_attributes, xml_of}
+use Rattle.rn_rng.proofs.WellNamed.{AreWellNamed, HasXmlNames, IsWellNamed, IsWellNamedRoot}
 use Rattle.rn_rng.specs.XmlDocuments.{IsXmlName, are_distinct}
 
 -- ---- names

@@ -1,16 +1,15 @@
 -- The text of an element is a document of XML with its elements.
-use Rattle.std.proofs.Common.{◌≡◌, ℕ, zero, suc, ◌+◌, ◌*◌, ◌<◌, List, [], ◌∷◌, ◌++◌, true, false, Bool, refl, sym, ap, ◌∙◌, subst, append-nil, append_assoc, map, arith, lit<}
-use Rattle.std.specs.Prelude.{◌==◌, ◌||◌, ◌&&◌, not, if◌then◌else◌, codes, encode_utf8, flat_map}
-use Rattle.std.specs.List.{list_all}
+use Rattle.std.proofs.Common.{◌≡◌, ℕ, zero, suc, ◌+◌, ◌<◌, [], ◌∷◌, ◌++◌, true, false, Bool, refl, sym, ap, ◌∙◌, subst, append-nil, append_assoc, map, lit<}
+use Rattle.std.specs.Prelude.{◌==◌, ◌||◌, not, if◌then◌else◌, codes, flat_map}
 use Rattle.std.proofs.lemmas.Bool.{eqb-true}
 use Rattle.std.proofs.lemmas.Str.{encode_ascii}
 use Rattle.rn_text.proofs.Words.AppendedLists.{all_append}
 use Rattle.rn_text.specs.Texts.{Text, is_white}
 use Rattle.rn_rng.specs.Elements.{Attributes, Element, Elements, parent, leaf, no_elements, more_elements}
 use Rattle.rn_rng.specs.Layout.{attribute_text, attributes_text, declaration_line, deeper, element_text, elements_text, end_line, indent, rng_uri, root_front, tag_front, text_escape, value_escape, xml_text}
-use Rattle.rn_rng.specs.WellNamed.{AreWellNamed, HasXmlNames, IsWellNamed, IsWellNamedRoot}
+use Rattle.rn_rng.proofs.WellNamed.{AreWellNamed, HasXmlNames, IsWellNamed, IsWellNamedRoot}
 use Rattle.rn_rng.specs.XmlDocuments as x
-use Rattle.rn_rng.specs.XmlDocuments.{AreAttributes, AreElements, IsElement, IsHexNumber, IsReference, IsTagFront, IsWhite, IsWritten, IsXml, IsXmlName, is_text_byte, is_value_byte, with_namespace, decimal, upper, digit, ampersand, less, greater, quote, character, nothing, itself, reference, empty_tag, of_text, of_elements}
+use Rattle.rn_rng.specs.XmlDocuments.{AreAttributes, AreElements, IsElement, IsReference, IsTagFront, IsWhite, IsWritten, IsXml, IsXmlName, is_text_byte, is_value_byte, decimal, upper, digit, ampersand, less, greater, quote, character, nothing, itself, reference, empty_tag, of_text, of_elements}
 
 -- ---- references
 

@@ -1,6 +1,6 @@
 -- A schema in the XML syntax as its elements (RELAX NG 2001, 2 and 3), without what 4.1 and 4.2 take away: all are in the namespace of RELAX NG, their
 -- attributes in none. One of rn_pattern's documents would not do: an element holds elements or a text here, and the text may be empty.
-use Rattle.std.specs.Prelude.{List, cond, bytes_eq}
+use Rattle.std.specs.Prelude.{List}
 use Rattle.rn_text.specs.Texts.{Text}
 
 -- names and values, in their order

@@ -1,5 +1,5 @@
 -- The text of an XML schema: each tag has a line of its own, and an element that holds a text has one for both tags (XML 1.0; where it leaves a choice, the project's own).
-use Rattle.std.specs.Prelude.{ℕ, zero, suc, ◌+◌, ◌==◌, nat_lt, if◌then◌else◌, List, [], ◌∷◌, ◌++◌, codes, flat_map}
+use Rattle.std.specs.Prelude.{ℕ, zero, suc, ◌+◌, ◌==◌, nat_lt, if◌then◌else◌, [], ◌∷◌, ◌++◌, codes, flat_map}
 use Rattle.rn_text.specs.Texts.{Text}
 use Rattle.rn_rng.specs.Elements.{Attributes, Element, Elements, parent, leaf, no_elements, more_elements}
 

@@ -4,6 +4,5 @@ pub mod Layout
 pub mod XmlTexts
 pub mod Readable
 pub mod XmlDocuments
-pub mod WellNamed
 pub mod Simplified
 pub mod inside

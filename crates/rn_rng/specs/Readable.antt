@@ -1,6 +1,6 @@
 -- Modules that their elements tell: each name is without white space and colon, as all names of the compact syntax are (its section 2), chains and
 -- choices have two members or more, and no other module is included.
-use Rattle.std.specs.Prelude.{◌≡◌, ℕ, ◌==◌, Bool, false, ◌||◌, List, [], ◌∷◌, Option, Some, None, ⊤}
+use Rattle.std.specs.Prelude.{◌≡◌, ℕ, ◌==◌, Bool, false, ◌||◌, [], ◌∷◌, Option, Some, None, ⊤}
 use Rattle.std.specs.List.{list_any}
 use Rattle.rn_text.specs.Texts.{Text, is_white}
 use Rattle.rn_syntax.specs.Tree as t

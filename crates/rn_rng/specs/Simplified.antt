@@ -1,7 +1,7 @@
 -- The grammar that a schema in the XML syntax stands for, which includes nothing: what sections 4.2 to 4.4, 4.8 to 4.15, 4.17 and 4.18 of RELAX NG make of
 -- it, in their order, with groups, interleaves and choices of two and more as they stand (4.12 nests them). None where the section has nothing to say.
 -- The disallowed characters of a library's URI (4.3) stay as they are.
-use Rattle.std.specs.Prelude.{ℕ, ◌==◌, Bool, true, ◌&&◌, if◌then◌else◌, List, [], ◌∷◌, ◌++◌, Option, Some, None, option_and_then, unwrap_or, take, drop, codes, bytes_eq}
+use Rattle.std.specs.Prelude.{◌==◌, Bool, ◌&&◌, if◌then◌else◌, List, [], ◌∷◌, ◌++◌, Option, Some, None, option_and_then, unwrap_or, take, drop, codes, bytes_eq}
 use Rattle.std.specs.List.{list_all, list_any}
 use Rattle.std.specs.Option.{option_map}
 use Rattle.rn_text.specs.Texts.{Text, is_white}

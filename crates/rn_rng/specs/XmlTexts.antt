@@ -1,5 +1,5 @@
 -- What is answered of a module in the XML syntax, or in its place.
-use Rattle.std.specs.Prelude.{◌≡◌, ◌≢◌, ◌<◌, ◌≤◌, ℕ, [], length}
+use Rattle.std.specs.Prelude.{◌≡◌, ◌<◌, ◌≤◌, ℕ, [], length}
 use Rattle.rn_text.specs.Texts.{Text}
 use Rattle.rn_syntax.specs.Tree.{Module, includes}
 use Rattle.rn_syntax.specs.declared.fault.FaultKind.{FaultKind}

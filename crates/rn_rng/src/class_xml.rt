@@ -2,7 +2,7 @@
 ghost use Rattle.std.specs.Prelude.{◌≡◌, ◌++◌, ◌∷◌, [], MatchOption, codes};
 ghost use Rattle.rn_syntax.specs.View.{any_view, class_view, classes_view};
 ghost use Rattle.rn_rng.specs.Elements.{leaf, no_elements, parent};
-ghost use Rattle.rn_rng.specs.Layout.{deeper, element_text, elements_text, end_line, indent, tag_front};
+ghost use Rattle.rn_rng.specs.Layout.{deeper, element_text, elements_text, indent, tag_front};
 ghost use Rattle.rn_rng.specs.Translation.{any_attributes, any_element, chosen, class_element, class_elements, inherited_in_any, ns_attribute, qualified};
 ghost use Rattle.rn_rng.specs.inside.Namespaces.{declared, uri_view};
 ghost use Rattle.rn_rng.specs.inside.Names.{IsNameOf, IsNoName};

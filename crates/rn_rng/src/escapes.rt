@@ -13,7 +13,8 @@ pub(crate) enum Holder {
 impl Holder {
     /// The reference that stands for a character, where it does not stand for itself.
     pub fn reference(self, c: char) -> Option<&'static str>
-        ensures { MatchOption result (escape self c ≡ c ∷ []) (λ r. (escape self c ≡ r.now) × (c < 128)) }
+        ensures { MatchOption result (escape self c ≡ c ∷ [])
+            (λ r. (escape self c ≡ r.now) × (c < 128)) }
     {
         match c {
             '&' => Some("&amp;"),

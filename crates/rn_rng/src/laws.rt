@@ -21,7 +21,8 @@ pub fn xml_is_a_document()
 /// and 4.18), so that both are valid for the same documents: of each module whose names are plain and whose chains have
 /// two members, as those of texts have that include nothing.
 pub fn xml_means_its_module()
-    ensures readable { (m : Module) → IsReadable m → grammar_of (xml_of m) ≡ Some (module_grammar m) }
+    ensures readable { (m : Module) → IsReadable m
+        → grammar_of (xml_of m) ≡ Some (module_grammar m) }
     ensures of_text { (text : Text) (m : Module) → IsModuleOf text m → IsFlat m
         → grammar_of (xml_of m) ≡ Some (module_grammar m) }
 {}

@@ -44,6 +44,7 @@ pub(crate) struct Writer {
 }
 
 impl Writer {
+    /// A text of no bytes.
     pub fn new(alloc: Global) -> Writer
         ensures text { string_bytes result.text ≡ [] }
         ensures goes { result.stopped ≡ None }

@@ -39,6 +39,7 @@ pub(crate) struct Namespaces<'m, 'a> {
 impl<'m, 'a> Namespaces<'m, 'a> {
     ghost use Rattle.rn_rng.specs.inside.Namespaces.{declared, uri_view};
 
+    /// What these declarations bind.
     pub fn new(
         alloc: Global,
         declarations: &'m [Declaration<'a>],

@@ -120,7 +120,8 @@ pub(crate) fn write_pattern(
 )
     ensures { let ds = declared namespaces.now in let around = uri_view ds place.namespace in
         let lib = uri_view ds place.library in
-        Writes (element_text place.level (pattern_element ds around lib (pattern_view pattern.now))) writer.old writer.new }
+        Writes (element_text place.level (pattern_element ds around lib (pattern_view pattern.now)))
+        writer.old writer.new }
 {
     if writer.stopped.is_some() {
         return;

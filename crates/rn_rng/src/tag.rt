@@ -12,6 +12,7 @@ pub(crate) struct Attribute<'a> {
 }
 
 impl<'a> Attribute<'a> {
+    /// An attribute with a name and a value.
     pub fn new(name: &'a str, value: &'a str) -> Attribute<'a>
         ensures { attribute_view result ≡ (name.now, value.now) }
     {

@@ -1,5 +1,5 @@
 -- What URIs of the code stand for.
-use Rattle.std.specs.Prelude.{◌≡◌, ℕ, List, [], map}
+use Rattle.std.specs.Prelude.{List, [], map}
 use Rattle.rn_text.specs.Texts.{Text}
 use Rattle.rn_syntax.specs.Places.{uri_at, xml_uri, xsd_uri}
 use Rattle.rn_syntax.specs.Tree.{Declaration}

@@ -1,5 +1,5 @@
 -- The attributes of a tag, and its text.
-use Rattle.std.specs.Prelude.{ℕ, List, [], ◌∷◌, ◌++◌, Option, Some, None}
+use Rattle.std.specs.Prelude.{ℕ, [], ◌∷◌, ◌++◌, Option, Some, None}
 use Rattle.rn_text.specs.Texts.{Text}
 use Rattle.rn_rng.specs.declared.tag.Attribute.{Attribute}
 use Rattle.rn_rng.specs.declared.tag.Tag.{Tag}

@@ -1,5 +1,5 @@
 -- What is appended to a text up to a limit.
-use Rattle.std.specs.Prelude.{◌≡◌, ◌<◌, ◌≤◌, Bool, cond, List, [], ◌++◌, length, Option, Some, None, nat_lt, string_bytes}
+use Rattle.std.specs.Prelude.{◌≡◌, ◌<◌, ◌≤◌, Bool, cond, ◌++◌, length, Option, Some, None, nat_lt, string_bytes}
 use Rattle.rn_text.specs.Texts.{Text}
 use Rattle.rn_rng.specs.declared.lines.Writer.{Writer}
 use Rattle.rn_rng.specs.declared.lines.Stop.{Stop}

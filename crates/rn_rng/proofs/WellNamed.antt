@@ -1,8 +1,7 @@
 -- Elements whose names, and those of their attributes, are names of XML, with no attribute given twice (XML 1.0, 2.3 and 3.1).
-use Rattle.std.specs.Prelude.{◌≡◌, true, List, [], ◌∷◌, codes, map, ⊤}
+use Rattle.std.specs.Prelude.{◌≡◌, true, [], ◌∷◌, map, ⊤}
 use Rattle.rn_text.specs.Texts.{Text}
 use Rattle.rn_rng.specs.Elements.{Attributes, Element, Elements, parent, leaf, no_elements, more_elements}
-use Rattle.rn_rng.specs.Layout.{rng_uri}
 use Rattle.rn_rng.specs.XmlDocuments.{IsXmlName, are_distinct, with_namespace}
 
 abbrev pub HasXmlNames : Attributes → Type 0
