@@ -3,7 +3,7 @@ ghost use Rattle.std.specs.Prelude.{◌≡◌, false, map, string_bytes, IfOk};
 ghost use Rattle.rn_flat.specs.FlatFaults.{LeavesOutput};
 ghost use Rattle.rn_flat.specs.ModuleSets.{IsSetOf};
 ghost use Rattle.rn_flat.specs.inside.ToldFiles.{told_of};
-ghost use Rattle.rn_flat.specs.JobResults.{Delivers, IsProduct, IsFlatSchema, IsFlatSchemaOf, IsFlatXml, IsSchemaIn};
+ghost use Rattle.rn_flat.specs.JobResults.{Delivers, IsProduct, IsFlatSchema, IsFlatSchemaOf, IsSchemaIn};
 
 use crate::compare::check_file;
 use crate::flat_fault::{FlatFault, refusal_fault};
@@ -103,10 +103,7 @@ fn spelled(alloc: Global, schema: String, syntax: Syntax) -> Result<Vec<u8>, Fla
 }
 
 /// The XML of a schema. `Refused` where it would be too long.
-fn xml_bytes(alloc: Global, schema: &str) -> Result<Vec<u8>, FlatFault>
-    requires { IsFlatSchema schema.now }
-    ensures { IfOk result (λ text. IsFlatXml text.items) }
-{
+fn xml_bytes(alloc: Global, schema: &str) -> Result<Vec<u8>, FlatFault> {
     match schema_xml(alloc, schema) {
         Ok(xml) => Ok(xml.into_bytes()),
         Err(XmlFault::Memory) => Err(FlatFault::Memory),
