@@ -91,15 +91,20 @@ fn product_text(
     }
 }
 
-/// A schema in one of its syntaxes. `Refused` where it would be too long in the XML syntax.
+/// A schema in one of its syntaxes.
 fn spelled(alloc: Global, schema: String, syntax: Syntax) -> Result<Vec<u8>, FlatFault>
     requires { IsFlatSchema (string_bytes schema) }
     ensures { IfOk result (λ text. IsSchemaIn syntax text.items) }
 {
-    if syntax == Syntax::Compact {
-        return Ok(schema.into_bytes());
+    match syntax {
+        Syntax::Compact => Ok(schema.into_bytes()),
+        Syntax::Xml => xml_bytes(alloc, schema.as_str()),
     }
-    match schema_xml(alloc, schema.as_str()) {
+}
+
+/// The XML of a schema. `Refused` where it would be too long.
+fn xml_bytes(alloc: Global, schema: &str) -> Result<Vec<u8>, FlatFault> {
+    match schema_xml(alloc, schema) {
         Ok(xml) => Ok(xml.into_bytes()),
         Err(XmlFault::Memory) => Err(FlatFault::Memory),
         Err(XmlFault::TooLarge | XmlFault::NoSchema) => {

@@ -1,13 +1,4 @@
 // Name classes as XML elements (RELAX NG 2001, 3, nameClass).
-ghost use Rattle.std.specs.Prelude.{◌≡◌, ◌++◌, ◌∷◌, [], MatchOption, codes};
-ghost use Rattle.rn_syntax.specs.View.{any_view, class_view, classes_view};
-ghost use Rattle.rn_rng.specs.Elements.{leaf, no_elements, parent};
-ghost use Rattle.rn_rng.specs.Layout.{deeper, element_text, elements_text, end_line, indent, tag_front};
-ghost use Rattle.rn_rng.specs.Translation.{any_attributes, any_element, chosen, class_element, class_elements, inherited_in_any, ns_attribute, qualified};
-ghost use Rattle.rn_rng.specs.inside.Namespaces.{declared, uri_view};
-ghost use Rattle.rn_rng.specs.inside.Names.{IsNameOf, IsNoName};
-ghost use Rattle.rn_rng.specs.inside.Tags.{attributes_view, optional_view};
-ghost use Rattle.rn_rng.specs.inside.Writes.{Writes};
 
 use crate::lines::Writer;
 use crate::namespaces::{Namespaces, Place, QualifiedName, UriSource};
@@ -19,10 +10,7 @@ pub(crate) fn one_name<'c>(
     namespaces: &Namespaces<'_, '_>,
     own: UriSource,
     class: &'c Nc<'_>,
-) -> Option<QualifiedName<'c>>
-    ensures { let ds = declared namespaces.now in let c = class_view class.now in
-        MatchOption result (IsNoName c) (IsNameOf ds (uri_view ds own) c) }
-{
+) -> Option<QualifiedName<'c>> {
     match class {
         Nc::Local(local) => Some(QualifiedName {
             namespace: own,
@@ -43,12 +31,7 @@ fn write_name(
     place: Place,
     namespace: UriSource,
     local: &str,
-)
-    ensures { let ds = declared namespaces.now in let u = uri_view ds namespace in
-        Writes (element_text place.level (leaf (codes "name")
-        (ns_attribute (uri_view ds place.namespace) u) (qualified u local.now)))
-        writer.old writer.new }
-{
+) {
     let tag = Tag {
         element: "name",
         first: namespaces.ns_attribute(place.namespace, namespace),
@@ -58,9 +41,7 @@ fn write_name(
 }
 
 /// The element of all names, or of all of a namespace.
-fn any_element(any: &AnyName<'_>) -> &'static str
-    ensures { result.now ≡ any_element (any_view any.now) }
-{
+fn any_element(any: &AnyName<'_>) -> &'static str {
     match any {
         AnyName::Any => "anyName",
         AnyName::AnyOf(_) => "nsName",
@@ -71,9 +52,7 @@ fn any_element(any: &AnyName<'_>) -> &'static str
 fn any_attribute<'t>(
     namespaces: &'t Namespaces<'_, '_>,
     any: &AnyName<'_>,
-) -> Option<Attribute<'t>>
-    ensures { optional_view result ≡ any_attributes (declared namespaces.now) (any_view any.now) }
-{
+) -> Option<Attribute<'t>> {
     match any {
         AnyName::Any => None,
         AnyName::AnyOf(prefix) => {
@@ -84,11 +63,7 @@ fn any_attribute<'t>(
 }
 
 /// The tag of all names, or of all of a namespace.
-fn any_tag<'t>(namespaces: &'t Namespaces<'_, '_>, any: &AnyName<'_>) -> Tag<'t>
-    ensures element { result.element.now ≡ any_element (any_view any.now) }
-    ensures attributes { attributes_view result ≡ any_attributes (declared namespaces.now)
-        (any_view any.now) }
-{
+fn any_tag<'t>(namespaces: &'t Namespaces<'_, '_>, any: &AnyName<'_>) -> Tag<'t> {
     Tag {
         element: any_element(any),
         first: any_attribute(namespaces, any),
@@ -102,11 +77,7 @@ fn write_any(
     namespaces: &Namespaces<'_, '_>,
     level: usize,
     any: &AnyName<'_>,
-)
-    ensures { let ds = declared namespaces.now in let a = any_view any.now in
-        Writes (element_text level (parent (any_element a) (any_attributes ds a) no_elements))
-        writer.old writer.new }
-{
+) {
     writer.empty(level, &any_tag(namespaces, any));
 }
 
@@ -116,14 +87,7 @@ fn open_any(
     namespaces: &Namespaces<'_, '_>,
     place: Place,
     any: &AnyName<'_>,
-) -> Place
-    ensures writes { let a = any_view any.now in Writes ((indent place.level
-        ++ tag_front (any_element a) (any_attributes (declared namespaces.now) a))
-        ++ 62 ∷ 10 ∷ []) writer.old writer.new }
-    ensures level { result.level ≡ deeper place.level }
-    ensures namespace { let ds = declared namespaces.now in uri_view ds result.namespace
-        ≡ inherited_in_any ds (any_view any.now) (uri_view ds place.namespace) }
-{
+) -> Place {
     writer.open(place.level, &any_tag(namespaces, any));
     match any {
         AnyName::Any => place.inside(),
@@ -139,11 +103,7 @@ pub(crate) fn write_class(
     place: Place,
     own: UriSource,
     class: &Nc<'_>,
-)
-    ensures { let ds = declared namespaces.now in
-        Writes (element_text place.level (class_element ds (uri_view ds own)
-        (uri_view ds place.namespace) (class_view class.now))) writer.old writer.new }
-{
+) {
     if writer.stopped.is_some() {
         return;
     }
@@ -171,12 +131,7 @@ fn write_choice(
     place: Place,
     own: UriSource,
     members: &[Nc<'_>],
-)
-    ensures { let ds = declared namespaces.now in
-        Writes (element_text place.level (parent (codes "choice") []
-        (class_elements ds (uri_view ds own) (uri_view ds place.namespace)
-        (classes_view members.now)))) writer.old writer.new }
-{
+) {
     if members.is_empty() {
         writer.empty_bare(place.level, "choice");
         return;
@@ -194,12 +149,7 @@ fn write_except(
     place: Place,
     own: UriSource,
     except: &Nc<'_>,
-)
-    ensures { let ds = declared namespaces.now in
-        Writes (element_text place.level (parent (codes "except") [] (chosen
-        (class_element ds (uri_view ds own) (uri_view ds place.namespace)
-        (class_view except.now))))) writer.old writer.new }
-{
+) {
     writer.open_bare(place.level, "except");
     write_excepted(writer, namespaces, place.inside(), own, except);
     writer.close(place.level, "except");
@@ -213,17 +163,27 @@ fn write_excepted(
     place: Place,
     own: UriSource,
     except: &Nc<'_>,
-)
-    ensures { let ds = declared namespaces.now in
-        Writes (elements_text place.level (chosen (class_element ds (uri_view ds own)
-        (uri_view ds place.namespace) (class_view except.now)))) writer.old writer.new }
-{
+) {
     match except {
-        Nc::Choice(members) if !members.is_empty() => {
-            write_classes(writer, namespaces, place, own, members);
-        }
+        Nc::Choice(members) => write_members(writer, namespaces, place, own, members),
         _ => write_class(writer, namespaces, place, own, except),
     }
+}
+
+/// Writes the members of a choice that stands in a choice anyhow; one without members as itself.
+#[cycle(class)]
+fn write_members(
+    writer: &mut Writer,
+    namespaces: &Namespaces<'_, '_>,
+    place: Place,
+    own: UriSource,
+    members: &[Nc<'_>],
+) {
+    if members.is_empty() {
+        writer.empty_bare(place.level, "choice");
+        return;
+    }
+    write_classes(writer, namespaces, place, own, members);
 }
 
 /// Writes name classes one after the other.
@@ -234,11 +194,7 @@ fn write_classes(
     place: Place,
     own: UriSource,
     classes: &[Nc<'_>],
-)
-    ensures { let ds = declared namespaces.now in
-        Writes (elements_text place.level (class_elements ds (uri_view ds own)
-        (uri_view ds place.namespace) (classes_view classes.now))) writer.old writer.new }
-{
+) {
     for class in classes {
         write_class(writer, namespaces, place, own, class);
     }

@@ -1,7 +1,4 @@
 // What stands for characters that XML reads as something else (XML 1.0 Fifth Edition, 2.4, 2.11 and 3.3.3).
-ghost use Rattle.std.specs.Prelude.{◌≡◌, ◌∷◌, ◌<◌, [], MatchOption};
-ghost use Rattle.std.specs.List.{list_all};
-ghost use Rattle.rn_rng.specs.inside.Escapes.{escape, is_plain_byte};
 
 /// What holds a text: an element, or an attribute between double quotes.
 #[derive(Clone, Copy, PartialEq, Eq)]
@@ -12,9 +9,7 @@ pub(crate) enum Holder {
 
 impl Holder {
     /// The reference that stands for a character, where it does not stand for itself.
-    pub fn reference(self, c: char) -> Option<&'static str>
-        ensures { MatchOption result (escape self c ≡ c ∷ []) (λ r. (escape self c ≡ r.now) × (c < 128)) }
-    {
+    pub fn reference(self, c: char) -> Option<&'static str> {
         match c {
             '&' => Some("&amp;"),
             '<' => Some("&lt;"),
@@ -29,15 +24,11 @@ impl Holder {
 }
 
 /// Whether no byte of the text is one for which a reference may stand.
-pub(crate) fn is_plain(text: &str) -> bool
-    ensures { result ≡ list_all is_plain_byte text.now }
-{
+pub(crate) fn is_plain(text: &str) -> bool {
     text.as_bytes().iter().all(|b| is_plain_byte(*b))
 }
 
 /// Whether no reference stands for the byte, wherever it is.
-fn is_plain_byte(b: u8) -> bool
-    ensures { result ≡ is_plain_byte b }
-{
+fn is_plain_byte(b: u8) -> bool {
     !matches!(b, b'&' | b'<' | b'>' | b'"' | b'\t' | b'\n' | b'\r')
 }

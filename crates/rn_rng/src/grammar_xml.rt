@@ -1,19 +1,4 @@
 // The XML text of a module without includes (RELAX NG 2001, 3; compact syntax, appendix A).
-ghost use Rattle.std.specs.Prelude.{◌≡◌, ◌↔◌, ◌∷◌, [], IfErr, IfOk, IsTrue, codes, map, string_bytes};
-ghost use Rattle.std.specs.Str.{chars};
-ghost use Rattle.rn_text.specs.Tokens.{HasTokens, lexeme_of};
-ghost use Rattle.rn_syntax.specs.Faults.{IsSound};
-ghost use Rattle.rn_syntax.specs.Places.{xsd_uri};
-ghost use Rattle.rn_syntax.specs.Spelled.{AreSpelled};
-ghost use Rattle.rn_syntax.specs.View.{item_view, items_view, module_view, pattern_view};
-ghost use Rattle.rn_rng.specs.Elements.{one_element, parent};
-ghost use Rattle.rn_rng.specs.Layout.{element_text, elements_text};
-ghost use Rattle.rn_rng.specs.Translation.{combine, grouped, item_elements, items_elements, pattern_element};
-ghost use Rattle.rn_rng.specs.XmlTexts.{HasNoXml, IsFlat, IsXmlOf, IsXmlOfText, TextHasNoXml};
-ghost use Rattle.rn_rng.specs.inside.Namespaces.{declared};
-ghost use Rattle.rn_rng.specs.inside.Texts.{IsOfSyntaxFault, IsOfTextFault, IsUncut, IsUnsound};
-ghost use Rattle.rn_rng.specs.inside.Tags.{optional_view};
-ghost use Rattle.rn_rng.specs.inside.Writes.{Writes};
 
 use crate::lines::{Writer, deeper};
 use crate::namespaces::{Namespaces, Place};
@@ -32,20 +17,14 @@ const END: &str = "</grammar>\n";
 
 /// The XML text of a module's text, as of a printed schema. `NoSchema` where the text is no module of the compact
 /// syntax, or its module includes another.
-pub fn schema_xml(alloc: Global, text: &str) -> Result<String, XmlFault>
-    ensures ok { IfOk result (λ xml. IsXmlOfText text.now (string_bytes xml)) }
-    ensures fault { IfErr result (TextHasNoXml text.now) }
-{
+pub fn schema_xml(alloc: Global, text: &str) -> Result<String, XmlFault> {
     let tokens = text_tokens(alloc, text)?;
     let module = text_module(alloc, &tokens)?;
     module_xml(alloc, &module)
 }
 
 /// The tokens of a text.
-fn text_tokens<'a>(alloc: Global, text: &'a str) -> Result<Vec<Token<'a>>, XmlFault>
-    ensures ok { IfOk result (λ found. HasTokens (chars text.now) (map lexeme_of found.items)) }
-    ensures fault { IfErr result (IsUncut text.now) }
-{
+fn text_tokens<'a>(alloc: Global, text: &'a str) -> Result<Vec<Token<'a>>, XmlFault> {
     match tokens(alloc, text.as_bytes()) {
         Ok(tokens) => Ok(tokens),
         Err(fault) => Err(text_fault(&fault)),
@@ -53,9 +32,7 @@ fn text_tokens<'a>(alloc: Global, text: &'a str) -> Result<Vec<Token<'a>>, XmlFa
 }
 
 /// What a text is refused for that has this fault.
-fn text_fault(fault: &TextFault) -> XmlFault
-    ensures { IsOfTextFault fault.now result }
-{
+fn text_fault(fault: &TextFault) -> XmlFault {
     match fault {
         TextFault::Memory => XmlFault::Memory,
         TextFault::Encoding { .. } | TextFault::Lexical { .. } => XmlFault::NoSchema,
@@ -63,10 +40,7 @@ fn text_fault(fault: &TextFault) -> XmlFault
 }
 
 /// The module of these tokens.
-fn text_module<'a>(alloc: Global, tokens: &[Token<'a>]) -> Result<Module<'a>, XmlFault>
-    ensures ok { IfOk result (λ m. AreSpelled tokens.now → IsSound tokens.now (module_view m)) }
-    ensures fault { IfErr result (IsUnsound tokens.now) }
-{
+fn text_module<'a>(alloc: Global, tokens: &[Token<'a>]) -> Result<Module<'a>, XmlFault> {
     match parse(alloc, tokens) {
         Ok(module) => Ok(module),
         Err(fault) => Err(syntax_fault(&fault)),
@@ -74,9 +48,7 @@ fn text_module<'a>(alloc: Global, tokens: &[Token<'a>]) -> Result<Module<'a>, Xm
 }
 
 /// What a text is refused for whose tokens have this fault.
-fn syntax_fault(fault: &SyntaxFault) -> XmlFault
-    ensures { IsOfSyntaxFault fault.now result }
-{
+fn syntax_fault(fault: &SyntaxFault) -> XmlFault {
     match fault {
         SyntaxFault::Memory => XmlFault::Memory,
         _ => XmlFault::NoSchema,
@@ -85,10 +57,7 @@ fn syntax_fault(fault: &SyntaxFault) -> XmlFault
 
 /// The XML text of a module that inherits no namespace. `NoSchema` where the module includes another; `TooLarge` where
 /// the text would have more than [`crate::MAX_XML`] bytes.
-pub fn module_xml(alloc: Global, module: &Module<'_>) -> Result<String, XmlFault>
-    ensures ok { IfOk result (λ text. IsXmlOf (module_view «module».now) (string_bytes text)) }
-    ensures fault { IfErr result (HasNoXml (module_view «module».now)) }
-{
+pub fn module_xml(alloc: Global, module: &Module<'_>) -> Result<String, XmlFault> {
     if !is_flat(alloc, module)? {
         return Err(XmlFault::NoSchema);
     }
@@ -101,16 +70,12 @@ pub fn module_xml(alloc: Global, module: &Module<'_>) -> Result<String, XmlFault
 }
 
 /// Whether a module includes no other.
-fn is_flat(alloc: Global, module: &Module<'_>) -> Result<bool, AllocError>
-    ensures { IfOk result (λ flat. IsTrue flat ↔ IsFlat (module_view «module».now)) }
-{
+fn is_flat(alloc: Global, module: &Module<'_>) -> Result<bool, AllocError> {
     Ok(includes(alloc, module)?.is_empty())
 }
 
 /// How a definition is combined with others of its name, as an attribute.
-fn combine(method: Method) -> Option<Attribute<'static>>
-    ensures { optional_view result ≡ combine method }
-{
+fn combine(method: Method) -> Option<Attribute<'static>> {
     match method {
         Method::Plain => None,
         Method::Choice => Some(Attribute::new("combine", "choice")),
@@ -125,10 +90,7 @@ fn write_items(
     namespaces: &Namespaces<'_, '_>,
     level: usize,
     items: &[Item<'_>],
-)
-    ensures { Writes (elements_text level (items_elements (declared namespaces.now)
-        (items_view items.now))) writer.old writer.new }
-{
+) {
     for item in items {
         write_item(writer, namespaces, level, item);
     }
@@ -141,10 +103,7 @@ fn write_item(
     namespaces: &Namespaces<'_, '_>,
     level: usize,
     item: &Item<'_>,
-)
-    ensures { Writes (elements_text level (item_elements (declared namespaces.now)
-        (item_view item.now))) writer.old writer.new }
-{
+) {
     match item {
         Item::Define { name, method, body } => {
             write_definition(writer, namespaces, level, name, *method, body);
@@ -162,11 +121,7 @@ fn write_div(
     namespaces: &Namespaces<'_, '_>,
     level: usize,
     items: &[Item<'_>],
-)
-    ensures { Writes (element_text level (parent (codes "div") []
-        (items_elements (declared namespaces.now) (items_view items.now))))
-        writer.old writer.new }
-{
+) {
     if items.is_empty() {
         writer.empty_bare(level, "div");
         return;
@@ -184,13 +139,7 @@ fn write_definition(
     name: &str,
     method: Method,
     body: &Pat<'_>,
-)
-    ensures { Writes (element_text level (parent (codes "define")
-        ((codes "name", name.now) ∷ combine method)
-        (grouped (pattern_element (declared namespaces.now) [] xsd_uri
-        (pattern_view body.now)))))
-        writer.old writer.new }
-{
+) {
     if writer.stopped.is_some() {
         return;
     }
@@ -211,12 +160,7 @@ fn write_start(
     level: usize,
     method: Method,
     body: &Pat<'_>,
-)
-    ensures { Writes (element_text level (parent (codes "start") (combine method)
-        (one_element (pattern_element (declared namespaces.now) [] xsd_uri
-        (pattern_view body.now)))))
-        writer.old writer.new }
-{
+) {
     let tag = Tag {
         element: "start",
         first: combine(method),

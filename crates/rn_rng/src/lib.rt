@@ -8,7 +8,6 @@ mod class_xml;
 mod data_xml;
 mod escapes;
 pub mod grammar_xml;
-pub mod laws;
 mod lines;
 mod namespaces;
 mod pattern_xml;

@@ -1,10 +1,4 @@
 // Lines of XML, which are written one by one up to a limit.
-ghost use Rattle.std.specs.Prelude.{◌≡◌, ◌∷◌, ◌++◌, [], None, IfErr, IfOk, encode_utf8, string_bytes};
-ghost use Rattle.rn_rng.specs.Elements.{leaf, no_elements, parent};
-ghost use Rattle.rn_rng.specs.Layout.{attribute_text, attributes_text, deeper, element_text, end_line, indent, tag_front};
-ghost use Rattle.rn_rng.specs.inside.Escapes.{escaped};
-ghost use Rattle.rn_rng.specs.inside.Tags.{attribute_view, attributes_view, front_text, optional_view};
-ghost use Rattle.rn_rng.specs.inside.Writes.{IsHindrance, Writes, stop_behind};
 
 use crate::escapes::{Holder, is_plain};
 use crate::tag::{Attribute, Tag};
@@ -18,9 +12,7 @@ pub const MAX_XML: usize = 67_108_864;
 const MAX_LEVEL: usize = 32;
 
 /// The level of what an element of this level holds.
-pub(crate) fn deeper(level: usize) -> usize
-    ensures { result ≡ deeper level }
-{
+pub(crate) fn deeper(level: usize) -> usize {
     if level < MAX_LEVEL {
         level + 1
     } else {
@@ -44,10 +36,8 @@ pub(crate) struct Writer {
 }
 
 impl Writer {
-    pub fn new(alloc: Global) -> Writer
-        ensures text { string_bytes result.text ≡ [] }
-        ensures goes { result.stopped ≡ None }
-    {
+    /// A text of no bytes.
+    pub fn new(alloc: Global) -> Writer {
         Writer {
             text: String::new(alloc),
             stopped: None,
@@ -55,10 +45,7 @@ impl Writer {
     }
 
     /// The text, or why there is none.
-    pub fn finish(self) -> Result<String, XmlFault>
-        ensures ok { IfOk result (λ text. (self.stopped ≡ None) × (text ≡ self.text)) }
-        ensures err { IfErr result (IsHindrance self) }
-    {
+    pub fn finish(self) -> Result<String, XmlFault> {
         match self.stopped {
             Some(Stop::Memory) => Err(XmlFault::Memory),
             Some(Stop::TooLarge) => Err(XmlFault::TooLarge),
@@ -68,9 +55,7 @@ impl Writer {
 
     /// Stops if there was no memory for what was to be appended, or if the text has become too large.
     #[inline(always)]
-    fn note_append(&mut self, appended: bool)
-        ensures { self.new ≡ record self.old { stopped = stop_behind appended self.old } }
-    {
+    fn note_append(&mut self, appended: bool) {
         if !appended {
             self.stopped = Some(Stop::Memory);
         } else if self.text.len() > MAX_XML {
@@ -80,9 +65,7 @@ impl Writer {
 
     /// Appends a text as it is.
     #[inline(always)]
-    pub fn put(&mut self, text: &str)
-        ensures { Writes text.now self.old self.new }
-    {
+    pub fn put(&mut self, text: &str) {
         if self.stopped.is_none() {
             let appended = self.text.push_str(text).is_ok();
             self.note_append(appended);
@@ -90,9 +73,7 @@ impl Writer {
     }
 
     /// Appends a character as it is.
-    fn put_char(&mut self, c: char)
-        ensures { Writes (encode_utf8 c) self.old self.new }
-    {
+    fn put_char(&mut self, c: char) {
         if self.stopped.is_none() {
             let appended = self.text.push(c).is_ok();
             self.note_append(appended);
@@ -100,9 +81,7 @@ impl Writer {
     }
 
     /// Appends a text with references for what is not itself in XML.
-    fn put_escaped(&mut self, holder: Holder, text: &str)
-        ensures { Writes (escaped holder text.now) self.old self.new }
-    {
+    fn put_escaped(&mut self, holder: Holder, text: &str) {
         if self.stopped.is_some() {
             return;
         }
@@ -114,9 +93,7 @@ impl Writer {
     }
 
     /// Appends a text character by character.
-    fn put_references(&mut self, holder: Holder, text: &str)
-        ensures { Writes (escaped holder text.now) self.old self.new }
-    {
+    fn put_references(&mut self, holder: Holder, text: &str) {
         for c in text.chars() {
             match holder.reference(c) {
                 Some(reference) => self.put(reference),
@@ -126,18 +103,14 @@ impl Writer {
     }
 
     /// Appends the indent of a level.
-    fn put_indent(&mut self, level: usize)
-        ensures { Writes (indent level) self.old self.new }
-    {
+    fn put_indent(&mut self, level: usize) {
         for _ in 0..level {
             self.put("  ");
         }
     }
 
     /// Appends an attribute with the space before it.
-    fn put_attribute(&mut self, attribute: &Attribute<'_>)
-        ensures { Writes (attribute_text (attribute_view attribute.now)) self.old self.new }
-    {
+    fn put_attribute(&mut self, attribute: &Attribute<'_>) {
         self.put(" ");
         self.put(attribute.name);
         self.put("=\"");
@@ -147,9 +120,7 @@ impl Writer {
     }
 
     /// Appends an attribute, if there is one.
-    fn put_optional(&mut self, attribute: &Option<Attribute<'_>>)
-        ensures { Writes (attributes_text (optional_view attribute.now)) self.old self.new }
-    {
+    fn put_optional(&mut self, attribute: &Option<Attribute<'_>>) {
         match attribute {
             Some(attribute) => self.put_attribute(attribute),
             None => {}
@@ -157,9 +128,7 @@ impl Writer {
     }
 
     /// Appends the indent and the front of a tag: all but its end.
-    fn put_front(&mut self, level: usize, tag: &Tag<'_>)
-        ensures { Writes (front_text level tag.now) self.old self.new }
-    {
+    fn put_front(&mut self, level: usize, tag: &Tag<'_>) {
         self.put_indent(level);
         self.put("<");
         self.put(tag.element);
@@ -168,61 +137,42 @@ impl Writer {
     }
 
     /// Appends the line of a start tag.
-    pub fn open(&mut self, level: usize, tag: &Tag<'_>)
-        ensures { Writes (front_text level tag.now ++ 62 ∷ 10 ∷ []) self.old self.new }
-    {
+    pub fn open(&mut self, level: usize, tag: &Tag<'_>) {
         self.put_front(level, tag);
         self.put(">\n");
     }
 
     /// Appends the line of an end tag.
-    pub fn close(&mut self, level: usize, element: &str)
-        ensures { Writes (indent level ++ end_line element.now) self.old self.new }
-    {
+    pub fn close(&mut self, level: usize, element: &str) {
         self.put_indent(level);
         self.put_end(element);
     }
 
     /// Appends an end tag and the end of its line.
-    fn put_end(&mut self, element: &str)
-        ensures { Writes (end_line element.now) self.old self.new }
-    {
+    fn put_end(&mut self, element: &str) {
         self.put("</");
         self.put(element);
         self.put(">\n");
     }
 
     /// Appends the line of an element without content.
-    pub fn empty(&mut self, level: usize, tag: &Tag<'_>)
-        ensures { Writes (element_text level
-            (parent tag.now.element.now (attributes_view tag.now) no_elements)) self.old self.new }
-    {
+    pub fn empty(&mut self, level: usize, tag: &Tag<'_>) {
         self.put_front(level, tag);
         self.put("/>\n");
     }
 
     /// Appends the line of a start tag without attributes.
-    pub fn open_bare(&mut self, level: usize, element: &str)
-        ensures { Writes ((indent level ++ tag_front element.now []) ++ 62 ∷ 10 ∷ [])
-            self.old self.new }
-    {
+    pub fn open_bare(&mut self, level: usize, element: &str) {
         self.open(level, &Tag::bare(element));
     }
 
     /// Appends the line of an element without attributes and content.
-    pub fn empty_bare(&mut self, level: usize, element: &str)
-        ensures { Writes (element_text level (parent element.now [] no_elements))
-            self.old self.new }
-    {
+    pub fn empty_bare(&mut self, level: usize, element: &str) {
         self.empty(level, &Tag::bare(element));
     }
 
     /// Appends the line of an element that holds two texts in a row.
-    pub fn line(&mut self, level: usize, tag: &Tag<'_>, prefix: &str, text: &str)
-        ensures { Writes (element_text level
-            (leaf tag.now.element.now (attributes_view tag.now) (prefix.now ++ text.now)))
-            self.old self.new }
-    {
+    pub fn line(&mut self, level: usize, tag: &Tag<'_>, prefix: &str, text: &str) {
         self.put_front(level, tag);
         self.put(">");
         self.put_escaped(Holder::Element, prefix);

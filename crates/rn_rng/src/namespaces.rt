@@ -1,14 +1,4 @@
 // The namespaces and datatype libraries of a module, and where a namespace is inherited (RELAX NG 2001, 4.3 and 4.9).
-ghost use Rattle.std.specs.Prelude.{◌≡◌, ◌++◌, [], IfOk, bytes_eq, map, unwrap_or};
-ghost use Rattle.rn_text.specs.Texts.{Text};
-ghost use Rattle.rn_syntax.specs.BindingDeclarations.{bound};
-ghost use Rattle.rn_syntax.specs.Places.{library_of, uri_at, uri_of, xml_uri};
-ghost use Rattle.rn_syntax.specs.View as seen;
-ghost use Rattle.rn_syntax.specs.View.{datatype_view, declaration_view};
-ghost use Rattle.rn_assemble.specs.Resolve.{default_of, namespace_of, type_library, uri_text};
-ghost use Rattle.rn_rng.specs.Layout.{deeper};
-ghost use Rattle.rn_rng.specs.Translation.{library_attribute, needs_ns, ns_attribute, qualified};
-ghost use Rattle.rn_rng.specs.inside.Tags.{optional_view};
 
 use crate::lines::deeper;
 use crate::tag::Attribute;
@@ -33,18 +23,14 @@ pub(crate) enum UriSource {
 pub(crate) struct Namespaces<'m, 'a> {
     pub declarations: &'m [Declaration<'a>],
     pub bindings: Bindings<'m, 'a>,
-    ghost bound_are: { bound bindings ≡ map declaration_view declarations.now },
 }
 
 impl<'m, 'a> Namespaces<'m, 'a> {
-    ghost use Rattle.rn_rng.specs.inside.Namespaces.{declared, uri_view};
-
+    /// What these declarations bind.
     pub fn new(
         alloc: Global,
         declarations: &'m [Declaration<'a>],
-    ) -> Result<Namespaces<'m, 'a>, AllocError>
-        ensures { IfOk result (λ s. declared s ≡ map declaration_view declarations.now) }
-    {
+    ) -> Result<Namespaces<'m, 'a>, AllocError> {
         Ok(Namespaces {
             declarations,
             bindings: Bindings::new(alloc, declarations)?,
@@ -52,10 +38,7 @@ impl<'m, 'a> Namespaces<'m, 'a> {
     }
 
     /// The URI of the declaration of a number; none for an inherited namespace.
-    #[tactic(auto, using(crate::proofs::DeclaredUris::uri_here, crate::proofs::DeclaredUris::uri_past))]
-    fn declared(&self, number: usize) -> &str
-        ensures { result.now ≡ uri_text [] (uri_at (declared self.now) number) }
-    {
+    fn declared(&self, number: usize) -> &str {
         let declarations = self.declarations;
         if number < declarations.len() {
             declaration_uri(&declarations[number])
@@ -65,9 +48,7 @@ impl<'m, 'a> Namespaces<'m, 'a> {
     }
 
     /// The text of a URI.
-    pub fn uri(&self, source: UriSource) -> &str
-        ensures { result.now ≡ uri_view (declared self.now) source }
-    {
+    pub fn uri(&self, source: UriSource) -> &str {
         match source {
             UriSource::Empty => "",
             UriSource::Xml => XML_URI,
@@ -77,9 +58,7 @@ impl<'m, 'a> Namespaces<'m, 'a> {
     }
 
     /// The namespace of elements without prefix.
-    pub fn default_namespace(&self) -> UriSource
-        ensures { uri_view (declared self.now) result ≡ default_of [] (declared self.now) }
-    {
+    pub fn default_namespace(&self) -> UriSource {
         match self.bindings.default() {
             Some(number) => UriSource::Declared(number),
             None => UriSource::Empty,
@@ -87,10 +66,7 @@ impl<'m, 'a> Namespaces<'m, 'a> {
     }
 
     /// The namespace of a prefix; none for one that is not bound.
-    pub fn namespace(&self, prefix: &str) -> UriSource
-        ensures { uri_view (declared self.now) result
-            ≡ namespace_of [] (declared self.now) prefix.now }
-    {
+    pub fn namespace(&self, prefix: &str) -> UriSource {
         if prefix == "xml" {
             return UriSource::Xml;
         }
@@ -101,10 +77,7 @@ impl<'m, 'a> Namespaces<'m, 'a> {
     }
 
     /// The datatype library of a prefix; the empty one for a prefix that is not bound.
-    fn prefixed_library(&self, prefix: &str) -> UriSource
-        ensures { uri_view (declared self.now) result
-            ≡ unwrap_or (library_of (declared self.now) prefix.now) [] }
-    {
+    fn prefixed_library(&self, prefix: &str) -> UriSource {
         if prefix == "xsd" {
             return UriSource::Xsd;
         }
@@ -115,10 +88,7 @@ impl<'m, 'a> Namespaces<'m, 'a> {
     }
 
     /// The library of a datatype.
-    pub fn library(&self, datatype: &Datatype<'_>) -> UriSource
-        ensures { uri_view (declared self.now) result
-            ≡ type_library [] (declared self.now) (datatype_view datatype.now) }
-    {
+    pub fn library(&self, datatype: &Datatype<'_>) -> UriSource {
         match datatype {
             Datatype::String(_) | Datatype::Token(_) => UriSource::Empty,
             Datatype::Named(prefix, _) => self.prefixed_library(prefix.name),
@@ -126,41 +96,27 @@ impl<'m, 'a> Namespaces<'m, 'a> {
     }
 
     /// Whether two URIs are the same.
-    pub fn are_same(&self, one: UriSource, other: UriSource) -> bool
-        ensures { result ≡ bytes_eq (uri_view (declared self.now) one)
-            (uri_view (declared self.now) other) }
-    {
+    pub fn are_same(&self, one: UriSource, other: UriSource) -> bool {
         one == other || self.uri(one) == self.uri(other)
     }
 
     /// Whether a namespace is that of prefix `xml`.
-    fn is_xml(&self, namespace: UriSource) -> bool
-        ensures { result ≡ bytes_eq (uri_view (declared self.now) namespace) xml_uri }
-    {
+    fn is_xml(&self, namespace: UriSource) -> bool {
         self.are_same(namespace, UriSource::Xml)
     }
 
     /// Whether a name needs an `ns` where it would take this namespace without one.
-    pub fn needs_ns(&self, taken: UriSource, namespace: UriSource) -> bool
-        ensures { result ≡ needs_ns (uri_view (declared self.now) taken)
-            (uri_view (declared self.now) namespace) }
-    {
+    pub fn needs_ns(&self, taken: UriSource, namespace: UriSource) -> bool {
         !self.are_same(namespace, taken) && !self.is_xml(namespace)
     }
 
     /// The prefix before a name of the namespace, with its colon.
-    pub fn prefix_of(&self, namespace: UriSource) -> &'static str
-        ensures { (local : Text) → result.now ++ local
-            ≡ qualified (uri_view (declared self.now) namespace) local }
-    {
+    pub fn prefix_of(&self, namespace: UriSource) -> &'static str {
         if self.is_xml(namespace) { "xml:" } else { "" }
     }
 
     /// The attribute with the namespace of a name, where it would take this one without it.
-    pub fn ns_attribute(&self, taken: UriSource, namespace: UriSource) -> Option<Attribute<'_>>
-        ensures { optional_view result ≡ ns_attribute (uri_view (declared self.now) taken)
-            (uri_view (declared self.now) namespace) }
-    {
+    pub fn ns_attribute(&self, taken: UriSource, namespace: UriSource) -> Option<Attribute<'_>> {
         if self.needs_ns(taken, namespace) {
             Some(Attribute::new("ns", self.uri(namespace)))
         } else {
@@ -169,10 +125,7 @@ impl<'m, 'a> Namespaces<'m, 'a> {
     }
 
     /// The attribute with the library of a datatype, where it would inherit this one without it.
-    pub fn library_attribute(&self, taken: UriSource, library: UriSource) -> Option<Attribute<'_>>
-        ensures { optional_view result ≡ library_attribute (uri_view (declared self.now) taken)
-            (uri_view (declared self.now) library) }
-    {
+    pub fn library_attribute(&self, taken: UriSource, library: UriSource) -> Option<Attribute<'_>> {
         if self.are_same(library, taken) {
             None
         } else {
@@ -182,9 +135,7 @@ impl<'m, 'a> Namespaces<'m, 'a> {
 }
 
 /// The URI of a declaration.
-fn declaration_uri<'u>(declaration: &'u Declaration<'_>) -> &'u str
-    ensures { result.now ≡ uri_text [] (uri_of (declaration_view declaration.now)) }
-{
+fn declaration_uri<'u>(declaration: &'u Declaration<'_>) -> &'u str {
     match declaration {
         Declaration::Namespace(_, uri) => uri_text(uri),
         Declaration::Default(_, _, uri) => uri_text(uri),
@@ -193,9 +144,7 @@ fn declaration_uri<'u>(declaration: &'u Declaration<'_>) -> &'u str
 }
 
 /// The text of a URI; none for the inherited one.
-fn uri_text<'u>(uri: &'u Uri<'_>) -> &'u str
-    ensures { result.now ≡ uri_text [] (seen.uri_view uri.now) }
-{
+fn uri_text<'u>(uri: &'u Uri<'_>) -> &'u str {
     match uri {
         Uri::Literal(text) => text.as_str(),
         Uri::Inherited => "",
@@ -212,10 +161,7 @@ pub(crate) struct Place {
 
 impl Place {
     /// A place of this level in the root.
-    pub fn at(level: usize) -> Place
-        ensures { result ≡ record {
-          level = level; namespace = UriSource.Empty; library = UriSource.Xsd } }
-    {
+    pub fn at(level: usize) -> Place {
         Place {
             level,
             namespace: UriSource::Empty,
@@ -224,9 +170,7 @@ impl Place {
     }
 
     /// The place in an element that gives neither.
-    pub fn inside(self) -> Place
-        ensures { result ≡ record self { level = deeper self.level } }
-    {
+    pub fn inside(self) -> Place {
         Place {
             level: deeper(self.level),
             namespace: self.namespace,
@@ -235,9 +179,7 @@ impl Place {
     }
 
     /// The place in an element that gives this namespace.
-    pub fn under(self, namespace: UriSource) -> Place
-        ensures { result ≡ record self { level = deeper self.level; namespace = namespace } }
-    {
+    pub fn under(self, namespace: UriSource) -> Place {
         Place {
             level: deeper(self.level),
             namespace,
@@ -246,9 +188,7 @@ impl Place {
     }
 
     /// The place in an element that gives this library.
-    pub fn with_library(self, library: UriSource) -> Place
-        ensures { result ≡ record self { level = deeper self.level; library = library } }
-    {
+    pub fn with_library(self, library: UriSource) -> Place {
         Place {
             level: deeper(self.level),
             namespace: self.namespace,

@@ -1,14 +1,4 @@
 // Patterns as XML elements (RELAX NG 2001, 3, pattern).
-ghost use Rattle.std.specs.Prelude.{◌≡◌, ◌++◌, ◌∷◌, [], codes};
-ghost use Rattle.rn_syntax.specs.Tree as tree;
-ghost use Rattle.rn_syntax.specs.View.{class_view, datatype_view, params_view, pattern_view, patterns_view};
-ghost use Rattle.rn_rng.specs.Elements.{no_elements, parent};
-ghost use Rattle.rn_rng.specs.Layout.{deeper, element_text, elements_text, indent, tag_front};
-ghost use Rattle.rn_rng.specs.Translation.{attribute_content, chosen, connector, grouped, inherited_in, pattern_element, pattern_elements, repetition};
-ghost use Rattle.rn_rng.specs.inside.Namespaces.{declared, uri_view};
-ghost use Rattle.rn_rng.specs.inside.Names.{name_attributes};
-ghost use Rattle.rn_rng.specs.inside.Tags.{attributes_view};
-ghost use Rattle.rn_rng.specs.inside.Writes.{Writes};
 
 use crate::class_xml::{one_name, write_class};
 use crate::data_xml::{open_data, write_data, write_value};
@@ -18,9 +8,7 @@ use crate::tag::{Attribute, Tag};
 use rn_syntax::{Data, Named, Operator, Pat, Postfix};
 
 /// The element that a postfix is.
-fn repetition(postfix: Postfix) -> &'static str
-    ensures { result.now ≡ repetition postfix }
-{
+fn repetition(postfix: Postfix) -> &'static str {
     match postfix {
         Postfix::Question => "optional",
         Postfix::Star => "zeroOrMore",
@@ -29,9 +17,7 @@ fn repetition(postfix: Postfix) -> &'static str
 }
 
 /// The element that an operator is.
-fn connector(operator: Operator) -> &'static str
-    ensures { result.now ≡ connector operator }
-{
+fn connector(operator: Operator) -> &'static str {
     match operator {
         Operator::Comma => "group",
         Operator::Ampersand => "interleave",
@@ -45,11 +31,7 @@ fn named_tag<'t>(
     element: &'t str,
     taken: UriSource,
     name: QualifiedName<'t>,
-) -> Tag<'t>
-    ensures element { result.element.now ≡ element.now }
-    ensures attributes { attributes_view result
-        ≡ name_attributes (declared namespaces.now) taken name.entry }
-{
+) -> Tag<'t> {
     Tag {
         element,
         first: Some(Attribute {
@@ -69,16 +51,7 @@ fn open_named<'t>(
     element: &'t str,
     taken: UriSource,
     name: QualifiedName<'t>,
-) -> Place
-    ensures writes { Writes ((indent place.level ++ tag_front element.now
-        (name_attributes (declared namespaces.now) taken name.entry)) ++ 62 ∷ 10 ∷ [])
-        writer.old writer.new }
-    ensures level { result.level ≡ deeper place.level }
-    ensures library { result.library ≡ place.library }
-    ensures namespace { let ds = declared namespaces.now in uri_view ds result.namespace
-        ≡ inherited_in (uri_view ds taken) (uri_view ds name.entry.namespace)
-        (uri_view ds place.namespace) }
-{
+) -> Place {
     writer.open(place.level, &named_tag(namespaces, element, taken, name));
     if namespaces.needs_ns(taken, name.namespace) {
         place.under(name.namespace)
@@ -93,20 +66,13 @@ fn write_text_attribute<'t>(
     namespaces: &'t Namespaces<'_, '_>,
     level: usize,
     name: QualifiedName<'t>,
-)
-    ensures { Writes (element_text level (parent (codes "attribute") (name_attributes
-        (declared namespaces.now) UriSource.Empty name.entry) no_elements))
-        writer.old writer.new }
-{
+) {
     let tag = named_tag(namespaces, "attribute", UriSource::Empty, name);
     writer.empty(level, &tag);
 }
 
 /// Writes a reference.
-fn write_ref(writer: &mut Writer, level: usize, name: &str)
-    ensures { Writes (element_text level (parent (codes "ref") ((codes "name", name.now) ∷ [])
-        no_elements)) writer.old writer.new }
-{
+fn write_ref(writer: &mut Writer, level: usize, name: &str) {
     writer.empty(level, &Tag::with("ref", Attribute::new("name", name)));
 }
 
@@ -117,11 +83,7 @@ pub(crate) fn write_pattern(
     namespaces: &Namespaces<'_, '_>,
     place: Place,
     pattern: &Pat<'_>,
-)
-    ensures { let ds = declared namespaces.now in let around = uri_view ds place.namespace in
-        let lib = uri_view ds place.library in
-        Writes (element_text place.level (pattern_element ds around lib (pattern_view pattern.now))) writer.old writer.new }
-{
+) {
     if writer.stopped.is_some() {
         return;
     }
@@ -153,26 +115,22 @@ fn write_element(
     namespaces: &Namespaces<'_, '_>,
     place: Place,
     named: &Named<'_>,
-)
-    ensures { let ds = declared namespaces.now in let around = uri_view ds place.namespace in
-        let lib = uri_view ds place.library in
-        Writes (element_text place.level (pattern_element ds around lib
-        (tree.element (class_view named.now.class) (pattern_view named.now.content)))) writer.old writer.new }
-{
+) {
     let own = namespaces.default_namespace();
     match one_name(namespaces, own, &named.class) {
         Some(name) => {
             let inside = open_named(writer, &*namespaces, place, "element", place.namespace, name);
             write_members(writer, namespaces, inside, &named.content);
+            writer.close(place.level, "element");
         }
         None => {
             writer.open_bare(place.level, "element");
             let inside = place.inside();
             write_class(writer, namespaces, inside, own, &named.class);
             write_members(writer, namespaces, inside, &named.content);
+            writer.close(place.level, "element");
         }
     }
-    writer.close(place.level, "element");
 }
 
 /// Writes an attribute; a name without prefix is in no namespace.
@@ -182,30 +140,38 @@ fn write_attribute(
     namespaces: &Namespaces<'_, '_>,
     place: Place,
     named: &Named<'_>,
-)
-    ensures { let ds = declared namespaces.now in let around = uri_view ds place.namespace in
-        let lib = uri_view ds place.library in
-        Writes (element_text place.level (pattern_element ds around lib
-        (tree.attribute (class_view named.now.class) (pattern_view named.now.content)))) writer.old writer.new }
-{
+) {
     let own = UriSource::Empty;
     match one_name(namespaces, own, &named.class) {
-        Some(name) if matches!(named.content, Pat::Text) => {
-            write_text_attribute(writer, &*namespaces, place.level, name);
-            return;
-        }
-        Some(name) => {
-            let inside = open_named(writer, &*namespaces, place, "attribute", own, name);
-            write_pattern(writer, namespaces, inside, &named.content);
-        }
+        Some(name) => write_named_attribute(writer, namespaces, place, name, &named.content),
         None => {
             writer.open_bare(place.level, "attribute");
             let inside = place.inside();
             write_class(writer, namespaces, inside, own, &named.class);
             write_content(writer, namespaces, inside, &named.content);
+            writer.close(place.level, "attribute");
         }
     }
-    writer.close(place.level, "attribute");
+}
+
+/// Writes an attribute with a name.
+#[cycle(pattern)]
+fn write_named_attribute(
+    writer: &mut Writer,
+    namespaces: &Namespaces<'_, '_>,
+    place: Place,
+    name: QualifiedName<'_>,
+    content: &Pat<'_>,
+) {
+    match content {
+        Pat::Text => write_text_attribute(writer, &*namespaces, place.level, name),
+        _ => {
+            let own = UriSource::Empty;
+            let inside = open_named(writer, &*namespaces, place, "attribute", own, name);
+            write_pattern(writer, namespaces, inside, content);
+            writer.close(place.level, "attribute");
+        }
+    }
 }
 
 /// Writes the content of an attribute behind its name class: nothing for any text (RELAX NG 2001, 4.12).
@@ -215,14 +181,10 @@ fn write_content(
     namespaces: &Namespaces<'_, '_>,
     place: Place,
     content: &Pat<'_>,
-)
-    ensures { let ds = declared namespaces.now in let around = uri_view ds place.namespace in
-        let lib = uri_view ds place.library in
-        Writes (elements_text place.level (attribute_content (pattern_view content.now)
-        (pattern_element ds around lib (pattern_view content.now)))) writer.old writer.new }
-{
-    if !matches!(content, Pat::Text) {
-        write_pattern(writer, namespaces, place, content);
+) {
+    match content {
+        Pat::Text => {}
+        _ => write_pattern(writer, namespaces, place, content),
     }
 }
 
@@ -234,12 +196,7 @@ fn write_around(
     place: Place,
     element: &str,
     content: &Pat<'_>,
-)
-    ensures { let ds = declared namespaces.now in let around = uri_view ds place.namespace in
-        let lib = uri_view ds place.library in
-        Writes (element_text place.level (parent element.now []
-        (grouped (pattern_element ds around lib (pattern_view content.now))))) writer.old writer.new }
-{
+) {
     writer.open_bare(place.level, element);
     write_members(writer, namespaces, place.inside(), content);
     writer.close(place.level, element);
@@ -252,18 +209,35 @@ pub(crate) fn write_members(
     namespaces: &Namespaces<'_, '_>,
     place: Place,
     content: &Pat<'_>,
-)
-    ensures { let ds = declared namespaces.now in let around = uri_view ds place.namespace in
-        let lib = uri_view ds place.library in
-        Writes (elements_text place.level
-        (grouped (pattern_element ds around lib (pattern_view content.now)))) writer.old writer.new }
-{
+) {
     match content {
-        Pat::Chain(Operator::Comma, members) if !members.is_empty() => {
-            write_patterns(writer, namespaces, place, members);
+        Pat::Chain(operator, members) => {
+            write_unwrapped(writer, namespaces, place, Operator::Comma, *operator, members);
         }
         _ => write_pattern(writer, namespaces, place, content),
     }
+}
+
+/// Writes a group, an interleave or a choice where it stands in one of the wrapper's kind anyhow: the members of one of
+/// this kind, if it has some, and any other as itself.
+#[cycle(pattern)]
+fn write_unwrapped(
+    writer: &mut Writer,
+    namespaces: &Namespaces<'_, '_>,
+    place: Place,
+    wrapper: Operator,
+    operator: Operator,
+    members: &[Pat<'_>],
+) {
+    if members.is_empty() {
+        writer.empty_bare(place.level, connector(operator));
+        return;
+    }
+    if operator == wrapper {
+        write_patterns(writer, namespaces, place, members);
+        return;
+    }
+    write_chain(writer, namespaces, place, connector(operator), members);
 }
 
 /// Writes a group, an interleave or a choice.
@@ -274,12 +248,7 @@ fn write_chain(
     place: Place,
     element: &str,
     members: &[Pat<'_>],
-)
-    ensures { let ds = declared namespaces.now in let around = uri_view ds place.namespace in
-        let lib = uri_view ds place.library in
-        Writes (element_text place.level (parent element.now []
-        (pattern_elements ds around lib (patterns_view members.now)))) writer.old writer.new }
-{
+) {
     if members.is_empty() {
         writer.empty_bare(place.level, element);
         return;
@@ -296,12 +265,7 @@ fn write_patterns(
     namespaces: &Namespaces<'_, '_>,
     place: Place,
     patterns: &[Pat<'_>],
-)
-    ensures { let ds = declared namespaces.now in let around = uri_view ds place.namespace in
-        let lib = uri_view ds place.library in
-        Writes (elements_text place.level
-        (pattern_elements ds around lib (patterns_view patterns.now))) writer.old writer.new }
-{
+) {
     for pattern in patterns {
         write_pattern(writer, namespaces, place, pattern);
     }
@@ -315,13 +279,7 @@ fn write_data_but(
     place: Place,
     data: &Data<'_>,
     except: &Pat<'_>,
-)
-    ensures { let ds = declared namespaces.now in let around = uri_view ds place.namespace in
-        let lib = uri_view ds place.library in
-        Writes (element_text place.level (pattern_element ds around lib (tree.datum_but
-        (datatype_view «data».now.datatype) (params_view «data».now.params.items) 0
-        (pattern_view except.now)))) writer.old writer.new }
-{
+) {
     let inside = open_data(writer, &*namespaces, place, &*data);
     writer.open_bare(inside.level, "except");
     write_excepted(writer, namespaces, inside.inside(), except);
@@ -336,15 +294,10 @@ fn write_excepted(
     namespaces: &Namespaces<'_, '_>,
     place: Place,
     except: &Pat<'_>,
-)
-    ensures { let ds = declared namespaces.now in let around = uri_view ds place.namespace in
-        let lib = uri_view ds place.library in
-        Writes (elements_text place.level
-        (chosen (pattern_element ds around lib (pattern_view except.now)))) writer.old writer.new }
-{
+) {
     match except {
-        Pat::Chain(Operator::Bar, members) if !members.is_empty() => {
-            write_patterns(writer, namespaces, place, members);
+        Pat::Chain(operator, members) => {
+            write_unwrapped(writer, namespaces, place, Operator::Bar, *operator, members);
         }
         _ => write_pattern(writer, namespaces, place, except),
     }

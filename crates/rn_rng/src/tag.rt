@@ -1,6 +1,4 @@
 // The name and the attributes of an element.
-ghost use Rattle.std.specs.Prelude.{◌≡◌, ◌∷◌, []};
-ghost use Rattle.rn_rng.specs.inside.Tags.{attribute_view, attributes_view};
 
 /// An attribute.
 #[derive(Clone, Copy)]
@@ -12,9 +10,8 @@ pub(crate) struct Attribute<'a> {
 }
 
 impl<'a> Attribute<'a> {
-    pub fn new(name: &'a str, value: &'a str) -> Attribute<'a>
-        ensures { attribute_view result ≡ (name.now, value.now) }
-    {
+    /// An attribute with a name and a value.
+    pub fn new(name: &'a str, value: &'a str) -> Attribute<'a> {
         Attribute {
             name,
             prefix: "",
@@ -33,10 +30,7 @@ pub(crate) struct Tag<'a> {
 
 impl<'a> Tag<'a> {
     /// An element without attributes.
-    pub fn bare(element: &'a str) -> Tag<'a>
-        ensures element { result.element.now ≡ element.now }
-        ensures attributes { attributes_view result ≡ [] }
-    {
+    pub fn bare(element: &'a str) -> Tag<'a> {
         Tag {
             element,
             first: None,
@@ -45,10 +39,7 @@ impl<'a> Tag<'a> {
     }
 
     /// An element with one attribute.
-    pub fn with(element: &'a str, attribute: Attribute<'a>) -> Tag<'a>
-        ensures element { result.element.now ≡ element.now }
-        ensures attributes { attributes_view result ≡ attribute_view attribute.entry ∷ [] }
-    {
+    pub fn with(element: &'a str, attribute: Attribute<'a>) -> Tag<'a> {
         Tag {
             element,
             first: Some(attribute),

@@ -1,8 +1,6 @@
-use Rattle.std.proofs.Common.{◌≡◌, rules, subst, sym, true}
-use Rattle.std.specs.Prelude.{string_bytes}
-use Rattle.rn_rng.specs.XmlTexts.{IsXmlOfText}
-use Rattle.rn_flat.specs.JobResults.{IsFlatSchema, IsFlatXml, IsSchemaIn}
+use Rattle.std.proofs.Common.{subst, sym}
+use Rattle.rn_flat.specs.JobResults.{IsFlatSchema, IsSchemaIn}
 use Rattle.rn_flat.proofs.jobs.spelled.Goals as goal
 
-pub returns-in-Ok : goal.returns-in-Ok
-returns-in-Ok c = ?
+pub returns-in-Compact : goal.returns-in-Compact
+returns-in-Compact c = subst (λ s. IsSchemaIn s c.into_bytes.result.items) (sym c.in-Compact.is) (subst IsFlatSchema (sym c.into_bytes.ensures.value) c.requires)

@@ -1,9 +1,0 @@
-pub mod Elements
-pub mod Translation
-pub mod Layout
-pub mod XmlTexts
-pub mod Readable
-pub mod XmlDocuments
-pub mod WellNamed
-pub mod Simplified
-pub mod inside
