@@ -1,8 +1,5 @@
 // Stores of patterns: what constructors make of members, and which patterns are new.
-ghost use Rattle.std.specs.Prelude.{IfOk, IsTrue};
-ghost use Rattle.rn_pattern.specs.Store.{KeepsIds};
-
-use rn_pattern::{Interned, Node, Patterns, Plain};
+use rn_pattern::{Interned, Patterns, Plain};
 use std::alloc::AllocError;
 use std::process::Abort;
 
@@ -118,44 +115,4 @@ fn a_plain_store_counts_each_pattern(rt: HostRuntime) {
     let mut store = Plain::new(rt.alloc());
     is_told(&rt, makes_anew(&mut store), "a reference is made anew");
     assert_eq!(rt; store.nodes(), 2);
-}
-
-/// A reference in that many lists, one within the other.
-fn tower<P: Patterns>(store: &mut P, name: &str, count: usize) -> Result<P::Id, AllocError>
-    ensures known { IfOk result (λ i. IsTrue (P.knows store.new i)) }
-    ensures kept { KeepsIds P.knows P.tree_of store.old store.new }
-{
-    let mut id = store.reference(name)?;
-    for n in 0..count {
-        id = store.list(id)?;
-    }
-    Ok(id)
-}
-
-/// Whether a choice of two deep towers has both, that of the first name first.
-fn sorts_towers<P: Patterns>(store: &mut P) -> Result<bool, AllocError> {
-    let b = tower(store, "b", 20_000)?;
-    let a = tower(store, "a", 20_000)?;
-    let both = store.choice(&[b, a])?;
-    Ok(match store.node(both) {
-        Node::Choice(members) => match members.as_slice() {
-            [first, second] => *first == a && *second == b,
-            _ => false,
-        },
-        _ => false,
-    })
-}
-
-#[test]
-fn deep_towers_are_compared(rt: HostRuntime) {
-    is_told(
-        &rt,
-        sorts_towers(&mut Plain::new(rt.alloc())),
-        "plain towers are in order",
-    );
-    is_told(
-        &rt,
-        sorts_towers(&mut Interned::new(rt.alloc())),
-        "interned towers are in order",
-    );
 }
