@@ -31,8 +31,6 @@ fn too_large(rt: HostRuntime) -> Result<(), AllocError> {
     assert!(rt; fits.len() <= MAX_XML && fits.len() > 67_000_000);
     let text = long_uris(rt.alloc(), 1_000_000, 68)?;
     assert!(rt; matches!(schema_xml(rt.alloc(), text.as_str()), Err(XmlFault::TooLarge)));
-    let text = long_uris(rt.alloc(), 1_000_000, 100_000)?;
-    assert!(rt; matches!(schema_xml(rt.alloc(), text.as_str()), Err(XmlFault::TooLarge)));
     Ok(())
 }
 
