@@ -1,5 +1,5 @@
-// Texts that are no flat schema, texts that would be too long, and lines that are indented no further.
-use rn_rng::{MAX_XML, XmlFault, schema_xml};
+// Texts that are no flat schema, and lines that are indented no further. A text that would be too long is a row of tests/flat.sh.
+use rn_rng::{XmlFault, schema_xml};
 use std::alloc::{AllocError, Global};
 use std::process::Abort;
 
@@ -15,25 +15,6 @@ fn no_schemas(rt: HostRuntime) {
     assert!(rt; is_no_schema(&rt, "start = p:a"));
     assert!(rt; is_no_schema(&rt, "include \"a.rnc\""));
     assert!(rt; is_no_schema(&rt, "div { include \"a.rnc\" { start = a } } start = b"));
-}
-
-/// A start with an alternative for each time that a URI of this length stands in the XML.
-fn long_uris(alloc: Global, length: usize, count: usize) -> Result<String, AllocError> {
-    let uri = "u".repeat(alloc, length)?;
-    let others = "| element p:* { empty } ".repeat(alloc, count)?;
-    format!(in alloc; "namespace p = \"{uri}\" start = empty {others}")
-}
-
-#[test]
-fn too_large(rt: HostRuntime) -> Result<(), AllocError> {
-    let text = long_uris(rt.alloc(), 1_000_000, 67)?;
-    let fits = schema_xml(rt.alloc(), text.as_str()).expect(&rt, "no XML");
-    assert!(rt; fits.len() <= MAX_XML && fits.len() > 67_000_000);
-    let text = long_uris(rt.alloc(), 1_000_000, 68)?;
-    assert!(rt; matches!(schema_xml(rt.alloc(), text.as_str()), Err(XmlFault::TooLarge)));
-    let text = long_uris(rt.alloc(), 1_000_000, 100_000)?;
-    assert!(rt; matches!(schema_xml(rt.alloc(), text.as_str()), Err(XmlFault::TooLarge)));
-    Ok(())
 }
 
 // At most 64 spaces stand before a tag.

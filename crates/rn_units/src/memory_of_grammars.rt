@@ -7,10 +7,9 @@ use crate::pattern_parts::{Parts, constructed_pattern, new_parts};
 use crate::samples::{BEGIN, END, MAIN, TWICE_INCLUDED, is_reference, mark, name, written_set};
 use rn_assemble::{Grammar, Refusal, assemble};
 use rn_modset::ModuleSet;
-use rn_pattern::{Interned, Pattern, Patterns, Plain, SmallString};
+use rn_pattern::{Interned, Patterns, Plain};
 use rn_syntax::{SyntaxFault, includes, parse};
 use rn_text::{is_keyword, is_ncname, tokens};
-use std::alloc::{AllocError, Global};
 use std::process::Abort;
 
 /// Whether a constructor is refused in a store of two references, which stay.
@@ -110,24 +109,13 @@ fn a_set_is_assembled(rt: HostRuntime) {
     print_answer(&rt, is_refused_grammar(&rt, &set));
 }
 
-/// A repetition of a reference to this name.
-fn repeated_reference(alloc: Global, name: &str) -> Result<Pattern, AllocError> {
-    let reference = Pattern::Ref(SmallString::from_str(alloc, name)?);
-    Ok(Pattern::OneOrMore(Box::new(alloc, reference)?))
-}
-
 #[test]
 fn names_and_stores_need_no_memory(rt: HostRuntime) {
     let mut store = Interned::new(rt.alloc());
     let a = store.reference("a").expect(&rt, "no memory");
     let class = name(rt.alloc(), "u", "n").expect(&rt, "no memory");
-    let first = repeated_reference(rt.alloc(), "a").expect(&rt, "no memory");
-    let second = repeated_reference(rt.alloc(), "b").expect(&rt, "no memory");
     mark(rt.alloc(), BEGIN);
-    let are_told = is_ncname("a")
-        && is_keyword("start")
-        && class.cmp(&class).is_eq()
-        && first.cmp(&second).is_lt();
+    let are_told = is_ncname("a") && is_keyword("start") && class.cmp(&class).is_eq();
     let is_kept = is_reference(&store, a, "a") && store.nodes() == 1;
     let plain = Plain::new(rt.alloc()).nodes();
     let interned = Interned::new(rt.alloc()).nodes();

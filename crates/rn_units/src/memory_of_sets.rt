@@ -144,62 +144,6 @@ fn sets_of_three_are_joined(rt: HostRuntime) {
     print_answer(&rt, is_refused_join(&rt, THREE, joined, THREE_HELD, after));
 }
 
-/// Three contributions, as a set is written.
-const THREE: &str = "@a\nx\n@b 2\ny\n@c 3 withdrawn\n";
-
-/// The three contributions of `THREE`, as a set holds them.
-const THREE_HELD: &str = "a 1\nb 2\nc 3 withdrawn\n";
-
-#[test]
-fn a_contribution_is_added_to_three(rt: HostRuntime) {
-    let mut set = written_set(rt.alloc(), THREE).expect(&rt, "no set");
-    let given = contribution(rt.alloc(), "d 4\nz").expect(&rt, "no contribution");
-    mark(rt.alloc(), BEGIN);
-    let answer = set.add(given);
-    mark(rt.alloc(), END);
-    let wanted = match &answer {
-        Ok(is_new) => {
-            assert!(rt; *is_new, "the contribution is new");
-            "a 1\nb 2\nc 3 withdrawn\nd 4\n"
-        }
-        Err((back, fault)) => {
-            let is_back = back.name.as_str() == "d" && *fault == AddFault::Memory;
-            assert!(rt; is_back, "the contribution comes back");
-            THREE_HELD
-        }
-    };
-    holds_these(&rt, &set, wanted);
-    print_answer(&rt, answer.is_err());
-}
-
-#[test]
-fn three_are_joined_with_three(rt: HostRuntime) {
-    let mut set = written_set(rt.alloc(), THREE).expect(&rt, "no set");
-    let other = written_set(rt.alloc(), "@a\nx\n@b 2\nz\n@d\n").expect(&rt, "no set");
-    mark(rt.alloc(), BEGIN);
-    let answer = set.join(&other);
-    mark(rt.alloc(), END);
-    let is_right = answer == Ok(()) || answer == Err(AddFault::Memory);
-    assert!(rt; is_right, "the set is joined or refused");
-    let wanted = match answer {
-        Ok(()) => "a 1\nb 2\nb 2\nc 3 withdrawn\nd 1\n",
-        Err(_) => THREE_HELD,
-    };
-    holds_these(&rt, &set, wanted);
-    print_answer(&rt, answer.is_err());
-}
-
-#[test]
-fn tokens_are_read_into_a_list(rt: HostRuntime) {
-    let mut found = tokens(rt.alloc(), b"a").expect(&rt, "no tokens");
-    mark(rt.alloc(), BEGIN);
-    let answer = read_tokens(MAIN.as_bytes(), &mut found);
-    mark(rt.alloc(), END);
-    let wanted = if answer.is_ok() { 11 } else { 0 };
-    assert_eq!(rt; found.len(), wanted);
-    print_answer(&rt, answer.is_err());
-}
-
 #[test]
 fn a_bundle_is_written(rt: HostRuntime) {
     let set = written_set(rt.alloc(), "@t 7\nabc").expect(&rt, "no set");
