@@ -34,7 +34,10 @@ fn a_text_is_cut_into_a_lent_list(rt: HostRuntime) {
     mark(rt.alloc(), END);
     match &answer {
         Ok(_) => assert_eq!(rt; found.len(), 11),
-        Err(fault) => assert!(rt; *fault == TextFault::Memory, "memory is refused"),
+        Err(fault) => {
+            assert!(rt; *fault == TextFault::Memory, "memory is refused");
+            assert_eq!(rt; found.len(), 0);
+        }
     }
     print_answer(&rt, answer.is_err());
 }
