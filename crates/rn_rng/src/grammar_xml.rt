@@ -10,7 +10,8 @@ use rn_text::{TextFault, Token, tokens};
 use std::alloc::{AllocError, Global};
 
 /// What stands before the first item.
-const HEAD: &str = "<?xml version=\"1.0\" encoding=\"UTF-8\"?>\n<grammar xmlns=\"http://relaxng.org/ns/structure/1.0\" datatypeLibrary=\"http://www.w3.org/2001/XMLSchema-datatypes\">\n";
+const HEAD: &str =
+    "<?xml version=\"1.0\" encoding=\"UTF-8\"?>\n<grammar xmlns=\"http://relaxng.org/ns/structure/1.0\" datatypeLibrary=\"http://www.w3.org/2001/XMLSchema-datatypes\">\n";
 
 /// What stands behind the last item.
 const END: &str = "</grammar>\n";
@@ -98,12 +99,7 @@ fn write_items(
 
 /// Writes an item; nothing for an include, which no flat module has.
 #[cycle(items)]
-fn write_item(
-    writer: &mut Writer,
-    namespaces: &Namespaces<'_, '_>,
-    level: usize,
-    item: &Item<'_>,
-) {
+fn write_item(writer: &mut Writer, namespaces: &Namespaces<'_, '_>, level: usize, item: &Item<'_>) {
     match item {
         Item::Define { name, method, body } => {
             write_definition(writer, namespaces, level, name, *method, body);

@@ -119,7 +119,14 @@ fn write_element(
     let own = namespaces.default_namespace();
     match one_name(namespaces, own, &named.class) {
         Some(name) => {
-            let inside = open_named(writer, &*namespaces, place, "element", place.namespace, name);
+            let inside = open_named(
+                writer,
+                &*namespaces,
+                place,
+                "element",
+                place.namespace,
+                name,
+            );
             write_members(writer, namespaces, inside, &named.content);
             writer.close(place.level, "element");
         }
@@ -212,7 +219,14 @@ pub(crate) fn write_members(
 ) {
     match content {
         Pat::Chain(operator, members) => {
-            write_unwrapped(writer, namespaces, place, Operator::Comma, *operator, members);
+            write_unwrapped(
+                writer,
+                namespaces,
+                place,
+                Operator::Comma,
+                *operator,
+                members,
+            );
         }
         _ => write_pattern(writer, namespaces, place, content),
     }
