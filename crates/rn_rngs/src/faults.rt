@@ -1,6 +1,6 @@
 // Texts that are no flat schema, and lines that are indented no further. A text that would be too long is a row of tests/flat.sh.
 use rn_rng::{XmlFault, schema_xml};
-use std::alloc::{AllocError, Global};
+use std::alloc::AllocError;
 use std::process::Abort;
 
 /// Whether a text is refused as no flat schema.
