@@ -1,6 +1,6 @@
 #!/usr/bin/env bash
 # Runs the program rnc-flat on folders that an enemy made, and where its output is in the way or it is stopped: links,
-# pipes, modes of files, long names, full disks, limits and signals. Usage: tests/flat-files.sh [PROGRAM]   (without PROGRAM: crates/rnc_flat/out/rnc_flat)
+# pipes, modes of files, long names, full disks and signals. Usage: tests/flat-files.sh [PROGRAM]   (without PROGRAM: crates/rnc_flat/out/rnc_flat)
 set -u
 
 source "$(dirname "${BASH_SOURCE[0]}")/rows.sh" rnc_flat "$@"
@@ -145,15 +145,12 @@ if as_user test -x "$program" && as_user test -r "$PWD/a.rnc"; then
     if [ $? -eq 3 ] && [ "$(cat got.err)" = "rnc-flat: error: open/flat.rnc can't be written" ] && [ "$(cat open/flat.rnc)" = old ]; then pass; else fail "mode 444: $(cat got.err)"; fi
 fi
 rm -rf open got.out got.err
-# more than the process may write: status 3, and nothing is left
+# a text of a megabyte
 {
     printf 'start = '
     for n in $(seq 20000); do printf 'element name-of-an-element-number-%d { text } |\n' "$n"; done
     echo 'empty'
 } >large.rnc
-(ulimit -f 100; "$program" -o flat.rnc large.rnc 2>"$work/got.err")
-if [ $? -eq 3 ] && [ "$(cat "$work/got.err")" = "rnc-flat: error: flat.rnc can't be written" ]; then pass; else fail "limit of a file: $(cat "$work/got.err")"; fi
-alone 'the limit leaves nothing' a.rnc b.rnc c.rnc large.rnc
 # a full disk
 if [ "$(id -u)" -eq 0 ] && mkdir disk && mount -t tmpfs -o size=64k none disk 2>/dev/null; then
     echo old >disk/flat.rnc

@@ -1,7 +1,7 @@
 -- Segments are walked one by one: the folder so far, whether one leads above the root, and how they are joined again.
-use Rattle.std.proofs.Common.{◌≡◌, ℕ, ◌+◌, ◌-◌, ◌<◌, ◌≤◌, ◌⊎◌, inl, inr, subst, arith, cond, Bool, ◌||◌, true, false, List, [], ◌∷◌, ◌++◌, length, get_or, take, drop, map, refl, ap, sym, ◌∙◌, length-append}
+use Rattle.std.proofs.Common.{◌≡◌, ℕ, ◌+◌, ◌-◌, ◌<◌, ◌≤◌, ◌⊎◌, inl, inr, subst, arith, cond, Bool, true, false, List, [], ◌∷◌, ◌++◌, length, get_or, take, drop, map, refl, ap, sym, ◌∙◌, length-append}
 use Rattle.std.specs.Borrow.{Bor}
-use Rattle.std.specs.List.{fold, flat_map, list_any}
+use Rattle.std.specs.List.{fold, flat_map}
 use Rattle.std.proofs.lemmas.Bool.{false≢true, cases_lt}
 use Rattle.std.proofs.lemmas.List.{map-append, take-map, get_or-map, take_rest, take_more, take_at, get_or_at, take-append-drop, drop_more, append-nil}
 use Rattle.std.proofs.lemmas.List.Sums.{fold-append}
@@ -91,8 +91,3 @@ within_more ss folder slice i d r within same led answer not_so before k h =
     ∙ ap (λ z. finds_none (walked_folder (texts (take i ss))) z) (get_or-map (λ (s : Bor (List ℕ)). s.now) ss i d [] within)
     ∙ ap (λ z. finds_none z (get_or ss i d).now) (sym (ap texts same ∙ led)) ∙ sym answer ∙ not_so in
     at_or_below P k i (cases_lt k i) (omega (arith, h)) here (λ less. before k less)
-
--- a test of the texts of segments is one of the segments
-pub any_of_texts : (p : Segment → Bool) (ss : List (Bor (List ℕ))) → list_any p (texts ss) ≡ list_any (λ (s : Bor (List ℕ)). p s.now) ss
-any_of_texts p [] = refl
-any_of_texts p (s ∷ ss) = ap (λ r. p s.now || r) (any_of_texts p ss)

@@ -138,7 +138,7 @@ fn decode(alloc: Global, text: &str) -> Result<String, ReferenceFault>
         return Err(ReferenceFault::Byte);
     }
     let found = decoded(alloc, text)?;
-    if has_dots(alloc, found.as_str()).map_err(no_memory)? {
+    if has_dots(found.as_str()) {
         return Err(ReferenceFault::Above);
     }
     Ok(found)

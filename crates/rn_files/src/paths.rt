@@ -169,10 +169,8 @@ fn is_dot_or_two(segment: &str) -> bool
 }
 
 /// Whether a path, whose escapes are decoded, has a segment `.` or `..`.
-#[tactic(auto, using(crate::proofs::WalkedSegments::any_of_texts))]
-pub fn has_dots(alloc: Global, path: &str) -> Result<bool, AllocError>
-    ensures { IfOk result (λ dots. dots ≡ has_dots path.now) }
+pub fn has_dots(path: &str) -> bool
+    ensures { result ≡ has_dots path.now }
 {
-    let parts = segments(alloc, path)?;
-    Ok(parts.iter().any(|part| is_dot_or_two(part)))
+    path.split('/').any(|part| is_dot_or_two(part))
 }

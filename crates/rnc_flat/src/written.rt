@@ -1,5 +1,4 @@
 // The files of the system, as they are written.
-use libc::types::rlimit;
 use rn_flat::Outputs;
 use rn_merge::Failed;
 use std::fs::{File, Metadata, OpenOptions, Permissions};
@@ -9,9 +8,6 @@ use std::{fs, io, process};
 
 /// How many names are tried for a file beside another.
 const ATTEMPTS: usize = 100;
-
-/// The limit on the bytes of a file that the process writes, as Linux numbers it.
-const FILE_SIZE: i32 = 1;
 
 /// The bits of a mode that say who may read, write and run a file.
 const PERMISSIONS: u32 = 0o777;
@@ -53,17 +49,13 @@ fn write_new(rt: &HostRuntime, path: &str, bytes: &[u8]) -> io::Result<()> {
     write_beside(rt, path, bytes, None)
 }
 
-/// Writes the bytes to a new file beside the one at the path, which then takes its place. More than the process may
-/// write are refused first, since the system would end it.
+/// Writes the bytes to a new file beside the one at the path, which then takes its place.
 fn write_beside(
     rt: &HostRuntime,
     path: &str,
     bytes: &[u8],
     former: Option<Metadata>,
 ) -> io::Result<()> {
-    if bytes.len() as u64 > largest_file() {
-        return Err(io::Error::from(ErrorKind::FileTooLarge));
-    }
     let (beside, mut file) = new_beside(rt, path)?;
     let written = fill(&mut file, bytes, former);
     let done = written.and_then(|()| fs::rename(rt, beside.as_str(), path));
@@ -71,19 +63,6 @@ fn write_beside(
         let _ = fs::remove_file(rt, beside.as_str());
     }
     done
-}
-
-/// The most bytes of a file that the process may write.
-fn largest_file() -> u64 {
-    let mut limit = rlimit {
-        rlim_cur: u64::MAX,
-        rlim_max: u64::MAX,
-    };
-    if libc::getrlimit(FILE_SIZE, &mut limit) == 0 {
-        limit.rlim_cur
-    } else {
-        u64::MAX
-    }
 }
 
 /// Writes the bytes to a new file, and sees that the disk has them. Who might use the former file may use this one; what
