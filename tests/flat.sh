@@ -566,7 +566,7 @@ bad token_of_83 1 "token.rnc:1:14: error: \`\"${n80%n}..\` can't stand here\n   
 printf 'start = text\n%sm = text\n%sm = empty\n%so |= text\n%so &= text\n' "$n80" "$n80" "$n80" "$n80" >methods.rnc
 bad names_defined 1 "methods.rnc:2:1: error: \`$n80..\` is defined here and in methods.rnc:3:1, neither with |= nor &=\n    ${n80}m = text\n    ^\nmethods.rnc:4:1: error: \`$n80..\` is combined by |= here, and by &= in methods.rnc:5:1\n    ${n80}o |= text\n    ^\n" methods.rnc
 printf 'start = a%s\na%s = b%s\nb%s = a%s\n' "$n80" "$n80" "$n80" "$n80" "$n80" >loop.rnc
-bad names_of_a_loop 1 "loop.rnc:2:1: error: \`a${n80%n}..\` refers to itself outside elements: by \`b${n80%n}..\` in loop.rnc:3:1\n    a$n80 = b$n80\n    ^\n" loop.rnc
+bad names_of_a_loop 1 "loop.rnc:2:1: error: \`a${n80%n}..\` refers to itself outside elements: by \`b${n80%n}..\` in loop.rnc:3:1\n    a$n80 = b${n80%nnnnn}\n    ^\n" loop.rnc
 printf 'include "short.rnc" { start = text %sm = text }\n' "$n80" >override.rnc
 bad name_that_replaces_nothing 1 "override.rnc:1:36: error: \`$n80..\` replaces nothing: short.rnc, which is included in override.rnc:1:9, does not define it\n    include \"short.rnc\" { start = text ${n80}m = text }\n                                       ^\n" override.rnc
 # characters that turn the direction of a text, are not seen or part lines: Cf, Zl and Zp
