@@ -5,3 +5,4 @@ pub mod NoRuleBroken
 pub mod TreeFaults
 pub mod FirstPlaces
 pub mod OpenBrackets
+pub mod RisingPlaces

@@ -19,3 +19,4 @@ pub mod Rows
 pub mod Grouping
 pub mod Inclusion
 pub mod PatternViews
+pub mod Lending

@@ -1,11 +1,14 @@
 // The items of a grammar, and those of an include (compact syntax, section 2, grammarContent and includeContent).
-ghost use Rattle.std.specs.Prelude.{◌≡◌, ◌≤◌, ◌<◌, length, map, IfOk, IsTrue};
+ghost use Rattle.std.specs.Prelude.{◌≡◌, ◌≤◌, ◌<◌, ◌∷◌, [], ℕ, length, map, IfOk, IsTrue};
 ghost use Rattle.std.specs.Cow.{cow_str_bytes};
+ghost use Rattle.rn_syntax.specs.Lent.{AreLent, item_literals, items_literals};
+ghost use Rattle.rn_syntax.specs.inside.Borrowed.{LendsOne, Lends};
 ghost use Rattle.rn_syntax.specs.inside.Follow.{Anything, Starts, behind_item, behind_pattern, first_terminal, is_end, no_brace, no_inherit};
 ghost use Rattle.rn_syntax.specs.Grammar.{AreInnerItems, AreItems, IsComponent, MayInherit, MayHaveOverrides};
 ghost use Rattle.rn_syntax.specs.inside.Including.{AreItemsBehind, IsDivEnd, IsIncludeEnd, IsInnerItem, IsInnerDivEnd, IsItem, begins_inner, begins_item};
 ghost use Rattle.rn_text.specs.inside.Reading.{GoesOn, MayGoOn};
 ghost use Rattle.rn_syntax.specs.inside.Readers.{Reads, rest};
+ghost use Rattle.rn_syntax.specs.Spelled.{AreSpelled};
 ghost use Rattle.rn_syntax.specs.Tree as tree;
 ghost use Rattle.rn_syntax.specs.View.{boxed_view, item_view, items_view, prefix_view};
 
@@ -22,19 +25,22 @@ use std::alloc::{AllocError, Global};
 use std::borrow::CowStr;
 
 fn define<'a>(name: &'a str, method: Method, body: Box<Pat<'a>>) -> Item<'a>
-    ensures { item_view result ≡ tree.define name.now method (boxed_view body.entry) }
+    ensures tree { item_view result ≡ tree.define name.now method (boxed_view body.entry) }
+    ensures literals { item_literals result ≡ [] }
 {
     Item::Define { name, method, body }
 }
 
 fn start(method: Method, body: Box<Pat<'_>>) -> Item<'_>
-    ensures { item_view result ≡ tree.start method (boxed_view body.entry) }
+    ensures tree { item_view result ≡ tree.start method (boxed_view body.entry) }
+    ensures literals { item_literals result ≡ [] }
 {
     Item::Start { method, body }
 }
 
 fn division(items: Vec<Item<'_>>) -> Item<'_>
-    ensures { item_view result ≡ tree.div (items_view items.entry.items) }
+    ensures tree { item_view result ≡ tree.div (items_view items.entry.items) }
+    ensures literals { item_literals result ≡ items_literals items.entry.items }
 {
     Item::Div(items)
 }
@@ -45,8 +51,10 @@ fn inclusion<'a>(
     inherit: Option<Prefix<'a>>,
     items: Vec<Item<'a>>,
 ) -> Result<Item<'a>, AllocError>
-    ensures { IfOk result (λ item. item_view item ≡ tree.include (cow_str_bytes wanted.entry)
+    ensures tree { IfOk result (λ item. item_view item ≡ tree.include (cow_str_bytes wanted.entry)
         (prefix_view inherit.entry) (items_view items.entry.items)) }
+    ensures literals { IfOk result (λ item. item_literals item
+        ≡ wanted.entry ∷ items_literals items.entry.items) }
 {
     let include = Box::new(
         alloc,
@@ -85,6 +93,7 @@ pub(crate) fn items<'a>(
     ensures inside { MayGoOn at (length tokens.now) result }
     ensures reads { Reads AreItems (Starts is_end)
         (λ v. map item_view v.items) tokens.now at result }
+    ensures lent { Lends tokens.now at (λ v. items_literals v.items) result }
 {
     items_behind(alloc, tokens, at, Vec::new(alloc))
 }
@@ -101,6 +110,9 @@ pub(crate) fn items_behind<'a>(
     ensures inside { MayGoOn at (length tokens.now) result }
     ensures reads { Reads (AreItemsBehind (map item_view read.entry.items)) (Starts is_end)
         (λ v. map item_view v.items) tokens.now at result }
+    ensures lent { IfOk result (λ r. AreSpelled tokens.now → (from : ℕ) → from ≤ at
+        → AreLent tokens.now from at (items_literals read.entry.items)
+        → AreLent tokens.now from r.1 (items_literals r.0.items)) }
 {
     let mut items = read;
     let mut end = at;
@@ -127,6 +139,7 @@ pub(crate) fn item<'a>(
     requires { at ≤ length tokens.now }
     ensures inside { GoesOn at (length tokens.now) result }
     ensures reads { Reads IsItem (Starts behind_item) item_view tokens.now at result }
+    ensures lent { Lends tokens.now at item_literals result }
 {
     match next(tokens, at) {
         Terminal::Keyword(keyword) => match keyword {
@@ -143,6 +156,7 @@ fn component<'a>(alloc: Global, tokens: &[Token<'a>], at: usize) -> Result<(Item
     requires { at ≤ length tokens.now }
     ensures inside { GoesOn at (length tokens.now) result }
     ensures reads { Reads IsComponent (Starts behind_pattern) item_view tokens.now at result }
+    ensures no_include { IfOk result (λ r. item_literals r.0 ≡ []) }
 {
     match next(tokens, at) {
         Terminal::Ident(name) => {
@@ -168,6 +182,7 @@ fn div<'a>(alloc: Global, tokens: &[Token<'a>], at: usize) -> Result<(Item<'a>, 
     requires { at ≤ length tokens.now }
     ensures inside { GoesOn at (length tokens.now) result }
     ensures reads { Reads IsDivEnd Anything item_view tokens.now at result }
+    ensures lent { Lends tokens.now at item_literals result }
 {
     let inside = left_brace(tokens, at)?;
     let (items, end) = items(alloc, tokens, inside)?;
@@ -180,6 +195,8 @@ fn include<'a>(alloc: Global, tokens: &[Token<'a>], at: usize) -> Result<(Item<'
     requires { at ≤ length tokens.now }
     ensures inside { GoesOn at (length tokens.now) result }
     ensures reads { Reads IsIncludeEnd (Starts behind_item) item_view tokens.now at result }
+    ensures lent { IfOk result (λ r. AreSpelled tokens.now
+        → LendsOne tokens.now at (item_literals r.0)) }
 {
     let (wanted, behind) = literal(alloc, tokens, at)?;
     let (inherit, own) = inherit(tokens, behind)?;
@@ -212,6 +229,7 @@ fn overrides<'a>(
     ensures inside { MayGoOn at (length tokens.now) result }
     ensures reads { Reads MayHaveOverrides (Starts no_brace)
         (λ v. map item_view v.items) tokens.now at result }
+    ensures no_include { IfOk result (λ r. items_literals r.0.items ≡ []) }
 {
     let Terminal::LeftBrace = next(tokens, at) else {
         return Ok((Vec::new(alloc), at));
@@ -247,6 +265,7 @@ fn inner_items<'a>(
     ensures inside { MayGoOn at (length tokens.now) result }
     ensures reads { Reads AreInnerItems (Starts is_end)
         (λ v. map item_view v.items) tokens.now at result }
+    ensures no_include { IfOk result (λ r. items_literals r.0.items ≡ []) }
 {
     let mut items = Vec::new(alloc);
     let mut end = at;
@@ -273,6 +292,7 @@ fn inner_item<'a>(
     requires { at ≤ length tokens.now }
     ensures inside { GoesOn at (length tokens.now) result }
     ensures reads { Reads IsInnerItem (Starts behind_item) item_view tokens.now at result }
+    ensures no_include { IfOk result (λ r. item_literals r.0 ≡ []) }
 {
     match next(tokens, at) {
         Terminal::Keyword(keyword) => match keyword {
@@ -289,6 +309,7 @@ fn inner_div<'a>(alloc: Global, tokens: &[Token<'a>], at: usize) -> Result<(Item
     requires { at ≤ length tokens.now }
     ensures inside { GoesOn at (length tokens.now) result }
     ensures reads { Reads IsInnerDivEnd Anything item_view tokens.now at result }
+    ensures no_include { IfOk result (λ r. item_literals r.0 ≡ []) }
 {
     let inside = left_brace(tokens, at)?;
     let (items, end) = inner_items(alloc, tokens, inside)?;

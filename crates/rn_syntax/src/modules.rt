@@ -1,6 +1,8 @@
 // Modules (compact syntax, section 2, topLevel).
 ghost use Rattle.std.specs.Prelude.{◌≤◌, ◌<◌, length, map, IfErr, IfOk};
 ghost use Rattle.rn_syntax.specs.Beginnings.{HasTree};
+ghost use Rattle.rn_syntax.specs.Lent.{AreLent, items_literals};
+ghost use Rattle.rn_syntax.specs.inside.Borrowed.{Lends};
 ghost use Rattle.rn_syntax.specs.inside.Follow.{Starts, is_end};
 ghost use Rattle.rn_syntax.specs.inside.Itemizing.{AreAnnotatedItems};
 ghost use Rattle.rn_syntax.specs.inside.Modular.{IsAnnotatedBody, IsBody, IsGrammarEnd, IsModuleFault};
@@ -23,6 +25,8 @@ use std::alloc::Global;
 pub(crate) fn module<'a>(alloc: Global, tokens: &[Token<'a>]) -> Result<Module<'a>, Fault>
     ensures tree { IfOk result (λ m. AreSpelled tokens.now
         → HasTree (terminals_of tokens.now) (module_view m)) }
+    ensures lent { IfOk result (λ m. AreSpelled tokens.now
+        → AreLent tokens.now 0 (length tokens.now) (items_literals m.items.items)) }
     ensures stuck { IfErr result (IsModuleFault tokens.now) }
 {
     let (decls, at) = declarations(alloc, tokens)?;
@@ -38,6 +42,7 @@ fn body<'a>(alloc: Global, tokens: &[Token<'a>], at: usize) -> Result<(Vec<Item<
     requires { at ≤ length tokens.now }
     ensures inside { MayGoOn at (length tokens.now) result }
     ensures reads { Reads IsBody (Starts is_end) (λ v. map item_view v.items) tokens.now at result }
+    ensures lent { Lends tokens.now at (λ v. items_literals v.items) result }
 {
     if let Terminal::LeftBracket = next(tokens, at) {
         let behind = annotation(tokens, at)?;
@@ -59,6 +64,7 @@ fn annotated_body<'a>(
     ensures inside { MayGoOn at (length tokens.now) result }
     ensures reads { Reads IsAnnotatedBody (Starts is_end)
         (λ v. map item_view v.items) tokens.now at result }
+    ensures lent { Lends tokens.now at (λ v. items_literals v.items) result }
 {
     if is_keyword(tokens, at, Keyword::Grammar) {
         return grammar(alloc, tokens, at + 1);
@@ -76,6 +82,7 @@ fn grammar<'a>(
     ensures inside { MayGoOn at (length tokens.now) result }
     ensures reads { Reads IsGrammarEnd (Starts is_end)
         (λ v. map item_view v.items) tokens.now at result }
+    ensures lent { Lends tokens.now at (λ v. items_literals v.items) result }
 {
     let inside = left_brace(tokens, at)?;
     let (items, close) = items(alloc, tokens, inside)?;
@@ -94,6 +101,7 @@ fn annotated_items<'a>(
     ensures inside { MayGoOn at (length tokens.now) result }
     ensures reads { Reads AreAnnotatedItems (Starts is_end)
         (λ v. map item_view v.items) tokens.now at result }
+    ensures lent { Lends tokens.now at (λ v. items_literals v.items) result }
 {
     let mut read = Vec::new(alloc);
     let (first, end) = item(alloc, tokens, at)?;

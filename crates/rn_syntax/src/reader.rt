@@ -1,9 +1,10 @@
 // The module that tokens spell.
-ghost use Rattle.std.specs.Prelude.{◌≡◌, [], None, IfOk, IfErr, IsTrue, OnOk, MatchOption};
+ghost use Rattle.std.specs.Prelude.{◌≡◌, [], None, length, IfOk, IfErr, IsTrue, OnOk, MatchOption};
 ghost use Rattle.rn_syntax.specs.TokenTerminals.{terminals_of};
 ghost use Rattle.rn_syntax.specs.Places.{deep, first, prefix_places, builtin_places, context_places, except_places};
 ghost use Rattle.rn_syntax.specs.Beginnings.{HasTree};
 ghost use Rattle.rn_syntax.specs.Faults.{HasModuleFault, HasNoFault, IsFault};
+ghost use Rattle.rn_syntax.specs.Lent.{AreLent, items_literals};
 ghost use Rattle.rn_syntax.specs.inside.Numbered.{wrong_declaration};
 ghost use Rattle.rn_syntax.specs.inside.Stopping.{IsSyntax};
 ghost use Rattle.rn_syntax.specs.Spelled.{AreSpelled};
@@ -24,6 +25,8 @@ use std::alloc::{AllocError, Global};
 fn tree<'a>(alloc: Global, tokens: &[Token<'a>]) -> Result<Module<'a>, SyntaxFault>
     ensures tree { IfOk result (λ m. AreSpelled tokens.now
         → HasTree (terminals_of tokens.now) (module_view m)) }
+    ensures lent { IfOk result (λ m. AreSpelled tokens.now
+        → AreLent tokens.now 0 (length tokens.now) (items_literals m.items.items)) }
     ensures place { IfErr result (IsSyntax tokens.now) }
 {
     match module(alloc, tokens) {
@@ -137,12 +140,15 @@ fn fault(alloc: Global, module: &Module<'_>) -> Result<Option<SyntaxFault>, Allo
 /// Tested in this order, each over all tokens and each with its first place in bytes: `Deep`, `Syntax`, `Prefix`,
 /// `Builtin`, `ContextValue`, `Except`. `Memory` stands only where memory was refused. The tokens before the place of
 /// `Syntax` begin some module, and no module begins with them and the token there; where the place is the end of the
-/// last token, they are none. What is said of trees is so where each token is spelled as its kind says, as those of a
-/// source are.
+/// last token, they are none. The literal of an include is a slice of the source where it is one segment without escape
+/// and carriage return; else it is owned. What is said of trees is so where each token is spelled as its kind says, as
+/// those of a source are.
 pub fn parse<'a>(alloc: Global, tokens: &[Token<'a>]) -> Result<Module<'a>, SyntaxFault>
     ensures shallow { OnOk result (deep 0 (terminals_of tokens.now) ≡ None) }
     ensures tree { IfOk result (λ m. AreSpelled tokens.now
         → HasTree (terminals_of tokens.now) (module_view m)) }
+    ensures lent { IfOk result (λ m. AreSpelled tokens.now
+        → AreLent tokens.now 0 (length tokens.now) (items_literals m.items.items)) }
     ensures sound { IfOk result (λ m. HasNoFault (module_view m)) }
     ensures fault { IfErr result (IsFault tokens.now) }
 {

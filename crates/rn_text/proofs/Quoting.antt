@@ -5,3 +5,5 @@ pub mod DelimitedRuns
 pub mod SegmentContents
 pub mod LiteralTokens
 pub mod VerbatimTexts
+pub mod SegmentReadings
+pub mod SegmentEscapes

@@ -1,10 +1,12 @@
 // Laws of tokens and literals. Each function does nothing: what it ensures is the law.
-ghost use Rattle.std.specs.Prelude.{◌≡◌, ◌≢◌, ◌⊎◌, ◌↔◌, ◌++◌, ℕ, List, true};
+ghost use Rattle.std.specs.Prelude.{◌≡◌, ◌≢◌, ◌⊎◌, ◌↔◌, ◌++◌, ◌∷◌, ℕ, List, true};
 ghost use Rattle.std.specs.List.{AllByRecursion, list_all};
 ghost use Rattle.std.specs.Str.{chars, IsUtf8, IsValidUpTo};
 ghost use Rattle.rn_text.specs.Characters.{is_xml_char};
 ghost use Rattle.rn_text.specs.Literals.{literal_bytes, literal_of};
 ghost use Rattle.rn_text.specs.Parts.{IsFirstPart, IsSpelled, ends_token, spells};
+ghost use Rattle.rn_text.specs.SegmentReading.{EscapesHold, IsReadAs};
+ghost use Rattle.rn_text.specs.Segments.{between_delimiters, is_delimited, is_segment, segment_text};
 ghost use Rattle.rn_text.specs.Tokens.{HasFault, HasTokens, IsLexicalPlace, Lexeme, SegmentsHaveText, StandInOrder};
 
 use crate::parts::{Kind, Part};
@@ -60,6 +62,21 @@ pub fn kinds_are_spelled()
 pub fn tokens_end_at_breaks()
     ensures { (kind : Kind) (front after : List ℕ) → spells (Part.Token kind) front ≡ true
         → ends_token after ≡ true → IsFirstPart (front ++ after) (Part.Token kind) front after }
+{}
+
+/// A segment is what is delimited as one and has, between its delimiters, escapes that stand for characters of XML
+/// other than the delimiter (RELAX NG Compact Syntax, 2.1 and appendix A, literalSegment).
+pub fn escapes_stand_between_delimiters()
+    ensures { (delimiter : ℕ) (cs : List ℕ) → (is_segment (delimiter ∷ cs) ≡ true)
+        ↔ ((is_delimited (delimiter ∷ cs) ≡ true)
+        × EscapesHold delimiter (between_delimiters (delimiter ∷ cs))) }
+{}
+
+/// The text of a segment is what is read of the characters between its delimiters, escape by escape and line end by
+/// line end (RELAX NG Compact Syntax, 2.1 and 2.2); nothing else is.
+pub fn segments_are_read()
+    ensures { (cs text : List ℕ) → is_segment cs ≡ true
+        → IsReadAs (between_delimiters cs) text ↔ (text ≡ segment_text cs) }
 {}
 
 /// The literal of a text reads back to the text.

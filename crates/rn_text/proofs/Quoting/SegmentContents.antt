@@ -23,7 +23,7 @@ use Rattle.rn_text.proofs.Words.TruthValues.{true_is_false}
 last_same : (xs ys : List ℕ) (c : ℕ) → xs ++ c ∷ [] ≡ ys ++ c ∷ [] → xs ≡ ys
 last_same xs ys c e = (same_front xs ys (c ∷ []) (c ∷ []) e (omega (arith, ap length e, length-append xs (c ∷ []), length-append ys (c ∷ [])))).0
 
-ends_with_one : (d : ℕ) (l : List ℕ) → ends_at_one d l ≡ true → (front : List ℕ) × (l ≡ front ++ d ∷ [])
+pub ends_with_one : (d : ℕ) (l : List ℕ) → ends_at_one d l ≡ true → (front : List ℕ) × (l ≡ front ++ d ∷ [])
 ends_with_one d [] e = cc
 ends_with_one d (c ∷ cs) e = ⊎_elim
     (λ here. ([], λ i. eqb-true c d here i ∷ none_of cs (sym (cond-true _ _ _ here) ∙ e) i))
@@ -33,7 +33,7 @@ ends_with_one d (c ∷ cs) e = ⊎_elim
 three_is : (d : ℕ) (l : List ℕ) → three_of d l ≡ true → ends_at_three d l ≡ true → l ≡ d ∷ d ∷ d ∷ []
 three_is d l h1 h2 = grind (arith, nat_tests, none_of)
 
-ends_with_three : (d : ℕ) (l : List ℕ) → ends_at_three d l ≡ true → (front : List ℕ) × (l ≡ front ++ d ∷ d ∷ d ∷ [])
+pub ends_with_three : (d : ℕ) (l : List ℕ) → ends_at_three d l ≡ true → (front : List ℕ) × (l ≡ front ++ d ∷ d ∷ d ∷ [])
 ends_with_three d [] e = cc
 ends_with_three d (c ∷ cs) e = ⊎_elim
     (λ here. ([], three_is d (c ∷ cs) here e))
@@ -44,14 +44,14 @@ three_same : (d : ℕ) (cs : List ℕ) → three_of d (d ∷ d ∷ d ∷ cs) ≡
 three_same d cs = let same : (d == d) ≡ true = eq-eqb d d refl in and_from (d == d) _ same (and_from (d == d) _ same same)
 
 -- three on each side
-between_three : (d : ℕ) (middle : List ℕ) → is_delimiter d ≡ true → between_delimiters (d ∷ d ∷ d ∷ (middle ++ d ∷ d ∷ d ∷ [])) ≡ middle
+pub between_three : (d : ℕ) (middle : List ℕ) → is_delimiter d ≡ true → between_delimiters (d ∷ d ∷ d ∷ (middle ++ d ∷ d ∷ d ∷ [])) ≡ middle
 between_three d middle q =
     let inner = middle ++ d ∷ d ∷ d ∷ [] in
     let n : length (d ∷ d ∷ d ∷ inner) - 6 ≡ length middle = omega (arith, length-append middle (d ∷ d ∷ d ∷ [])) in
     cond-true _ _ _ (and_from (is_delimiter d) _ q (three_same d inner)) ∙ ap (λ k. take k inner) n ∙ take-append_seam middle (d ∷ d ∷ d ∷ [])
 
 -- one on each side
-between_one : (d : ℕ) (middle : List ℕ) → opens_threefold (d ∷ (middle ++ d ∷ [])) ≡ false → between_delimiters (d ∷ (middle ++ d ∷ [])) ≡ middle
+pub between_one : (d : ℕ) (middle : List ℕ) → opens_threefold (d ∷ (middle ++ d ∷ [])) ≡ false → between_delimiters (d ∷ (middle ++ d ∷ [])) ≡ middle
 between_one d middle simple =
     let inner = middle ++ d ∷ [] in
     let n : length (d ∷ inner) - 2 ≡ length middle = omega (arith, length-append middle (d ∷ [])) in
@@ -114,7 +114,7 @@ text_skip zero cs = refl
 text_skip (suc n) [] = refl
 text_skip (suc n) (c ∷ cs) = text_skip n cs
 
-behind_escape : (c : ℕ) (cs : List ℕ) → text_after (length cs - length (after_escape (c ∷ cs))) cs ≡ text_after 0 (after_escape (c ∷ cs))
+pub behind_escape : (c : ℕ) (cs : List ℕ) → text_after (length cs - length (after_escape (c ∷ cs))) cs ≡ text_after 0 (after_escape (c ∷ cs))
 behind_escape c cs =
     let ends = escape_ends c cs in
     let n : length cs - length (after_escape (c ∷ cs)) ≡ length ends.0 = omega (arith, ap length ends.1, length-append ends.0 (after_escape (c ∷ cs))) in
@@ -167,19 +167,19 @@ whole_if_hold d (c ∷ cs) h [] after split e =
     ap is_whole_escape split ∙ both.0
 whole_if_hold d (c ∷ cs) h (x ∷ xs) after split e = whole_if_hold d cs (and_parts _ (escapes_hold d cs) h).1 xs after (cons_rest split) e
 
-whole_behind : (front rest cs : List ℕ) → front ++ rest ≡ cs → EscapesWhole cs → EscapesWhole rest
+pub whole_behind : (front rest cs : List ℕ) → front ++ rest ≡ cs → EscapesWhole cs → EscapesWhole rest
 whole_behind front rest cs split whole f after e = whole (front ++ f) after (append_assoc front f after ∙ ap (λ l. front ++ l) e ∙ split)
 
-begins_some : (p : ℕ → Bool) (l : List ℕ) → begins_with p l ≡ true → is_empty l ≡ false
+pub begins_some : (p : ℕ → Bool) (l : List ℕ) → begins_with p l ≡ true → is_empty l ≡ false
 begins_some p l h1 = grind (arith, nat_tests)
 
-begins_front : (p : ℕ → Bool) (l more : List ℕ) → is_empty l ≡ false → begins_with p (l ++ more) ≡ begins_with p l
+pub begins_front : (p : ℕ → Bool) (l more : List ℕ) → is_empty l ≡ false → begins_with p (l ++ more) ≡ begins_with p l
 begins_front p l more h1 = grind (arith, nat_tests)
 
 drop_one : (l more : List ℕ) → is_empty l ≡ false → drop 1 (l ++ more) ≡ drop 1 l ++ more
 drop_one l more h1 = grind (arith, nat_tests)
 
-run_some : (p : ℕ → Bool) (l : List ℕ) → is_empty (after_run p l) ≡ false → is_empty l ≡ false
+pub run_some : (p : ℕ → Bool) (l : List ℕ) → is_empty (after_run p l) ≡ false → is_empty l ≡ false
 run_some p l h1 = grind (arith, nat_tests)
 
 -- what an escape at the front of a text is, it is where more follows
@@ -199,7 +199,7 @@ delimiter_ends : (q : ℕ) → is_delimiter q ≡ true → (is_ascii_hexdigit q 
 delimiter_ends q h1 = grind (arith, nat_tests)
 
 -- digits and a brace that come before a delimiter
-digits_within : (digits more : List ℕ) (q : ℕ) → is_delimiter q ≡ true → begins_with is_ascii_hexdigit (digits ++ q ∷ more) ≡ true → begins_with (λ d. d == 125) (after_run is_ascii_hexdigit (digits ++ q ∷ more)) ≡ true
+pub digits_within : (digits more : List ℕ) (q : ℕ) → is_delimiter q ≡ true → begins_with is_ascii_hexdigit (digits ++ q ∷ more) ≡ true → begins_with (λ d. d == 125) (after_run is_ascii_hexdigit (digits ++ q ∷ more)) ≡ true
     → (begins_with is_ascii_hexdigit digits ≡ true) × (begins_with (λ d. d == 125) (after_run is_ascii_hexdigit digits) ≡ true) × (run_of is_ascii_hexdigit (digits ++ q ∷ more) ≡ run_of is_ascii_hexdigit digits)
 digits_within digits more q d begins ends = ⊎_elim
     (λ none. let stop = run_ends is_ascii_hexdigit digits q more (sym (all_pass is_ascii_hexdigit digits) ∙ none) (delimiter_ends q d).0 in
@@ -211,7 +211,7 @@ digits_within digits more q d begins ends = ⊎_elim
     ))
     (cases_Bool (is_empty (after_run is_ascii_hexdigit digits)))
 
-whole_within : (cs more : List ℕ) (q : ℕ) → is_delimiter q ≡ true → escape_front cs ≡ true → is_whole_escape (cs ++ q ∷ more) ≡ true → is_whole_escape cs ≡ true
+pub whole_within : (cs more : List ℕ) (q : ℕ) → is_delimiter q ≡ true → escape_front cs ≡ true → is_whole_escape (cs ++ q ∷ more) ≡ true → is_whole_escape cs ≡ true
 whole_within [] more q d e whole = cc
 whole_within (c ∷ cs) more q d e whole =
     let digits = after_brace (c ∷ cs) in
@@ -228,7 +228,7 @@ whole_within (c ∷ cs) more q d e whole =
 whole_before : (cs more : List ℕ) (q : ℕ) → is_delimiter q ≡ true → EscapesWhole (cs ++ q ∷ more) → EscapesWhole cs
 whole_before cs more q h1 h2 = grind (arith, nat_tests, append_assoc, whole_within, within_brace)
 
-opened_three : (d : ℕ) (cs : List ℕ) → three_of d (d ∷ cs) ≡ true → (more : List ℕ) × (cs ≡ d ∷ d ∷ more)
+pub opened_three : (d : ℕ) (cs : List ℕ) → three_of d (d ∷ cs) ≡ true → (more : List ℕ) × (cs ≡ d ∷ d ∷ more)
 opened_three d cs h1 = grind (arith, nat_tests, true_is_false)
 
 -- the escapes between the delimiters of a segment

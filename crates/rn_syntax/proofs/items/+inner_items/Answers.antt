@@ -3,7 +3,9 @@ use Rattle.std.proofs.lemmas.List.{map-append}
 use Rattle.std.proofs.lemmas.Result.{err_from_is_err_and}
 use Rattle.rn_syntax.specs.Grammar.{AreInnerItems}
 use Rattle.rn_syntax.specs.inside.Follow.{Anything}
+use Rattle.rn_syntax.specs.Lent.{items_literals}
 use Rattle.rn_syntax.specs.View.{item_view}
+use Rattle.rn_syntax.proofs.ProductionsRead.Lending.{none_more}
 use Rattle.rn_syntax.proofs.ProductionsRead.Compose.{on_fault, took_same, took_upto, stuck_upto, reads_upto, took_gives, upto_then}
 use Rattle.rn_syntax.proofs.ProductionsRead.Next.{token_at}
 use Rattle.rn_syntax.proofs.ProductionsRead.Rows.{so_far_row, so_far_note, stuck_note, stuck_annotation, stuck_row, so_far_took, so_far_same}
@@ -13,7 +15,7 @@ use Rattle.rn_syntax.proofs.items.+inner_items.Goals as goal
 -- ---- lists
 
 pub inner_items-inner-init : goal.inner_items-inner-init
-inner_items-inner-init t c = record { further = omega arith; inside = c.requires; so_far = λ s. so_far_same _ _ (sym (ap (map item_view) c.new-items.ensures.items)) (inner_so_far _) }
+inner_items-inner-init t c = record { further = omega arith; inside = c.requires; so_far = λ s. so_far_same _ _ (sym (ap (map item_view) c.new-items.ensures.items)) (inner_so_far _); no_include = ap items_literals c.new-items.ensures.items }
 
 pub inner_items-inner-preserved-then-begins_note : goal.inner_items-inner-preserved-then-begins_note
 inner_items-inner-preserved-then-begins_note t c =
@@ -22,6 +24,7 @@ inner_items-inner-preserved-then-begins_note t c =
       further = omega (arith, c.in_ok-end.ensures.inside.further);
       inside = c.in_ok-end.ensures.inside.inside;
       so_far = λ s. so_far_note inner_row _ (c.inner.invariant.so_far s) here.2 (sym c.if-begins_note.ensures.is) (c.in_ok-end.ensures.skips s);
+      no_include = c.inner.invariant.no_include;
     }
 
 pub inner_items-inner-preserved : goal.inner_items-inner-preserved
@@ -30,6 +33,7 @@ inner_items-inner-preserved t c = record {
   inside = c.in_ok-item.ensures.inside.inside;
   so_far = λ s. so_far_same _ _ (sym (ap (map item_view) c.in_ok-push.ensures.items ∙ map-append item_view c.inner.items.items (c.in_ok-item.item ∷ [])))
       (so_far_row inner_row _ (c.inner.invariant.so_far s) (c.in_ok-body.ensures.skips s) (c.in_ok-item.ensures.reads s));
+  no_include = none_more c.inner.items.items _ c.in_ok-item.item c.in_ok-push.ensures.items c.inner.invariant.no_include c.in_ok-item.ensures.no_include;
 }
 
 pub inner_items-returns-in_err-end-clause-reads : goal.inner_items-returns-in_err-end-clause-reads
@@ -87,5 +91,5 @@ inner_div-returns-in_err-behind-clause-reads t c =
 
 pub inner_div-returns-clause-reads : goal.inner_div-returns-clause-reads
 inner_div-returns-clause-reads t c = λ s.
-    took_same (sym c.division.ensures)
+    took_same (sym c.division.ensures.tree)
     (took_upto (upto_then (open_read AreInnerItems DivGives Anything can_inner can_div (c.in_ok-inside.ensures.passes s).1) (brace_read AreInnerItems DivGives Anything can_inner can_div (c.in_ok-items.ensures.reads s) (c.in_ok-behind.ensures.passes s).1)) (took_gives _ _))

@@ -1,9 +1,10 @@
 -- The items so far, and what is left.
-use Rattle.std.proofs.Common.{◌≤◌, ◌-◌, ◌+◌, ◌*◌, length, map}
+use Rattle.std.proofs.Common.{◌≡◌, [], ◌≤◌, ◌-◌, ◌+◌, ◌*◌, length, map}
 use Rattle.rn_syntax.specs.Grammar.{AreInnerItems}
 use Rattle.rn_syntax.specs.inside.Including.{IsInnerItem}
 use Rattle.rn_syntax.specs.inside.Readers.{rest}
 use Rattle.rn_syntax.specs.Spelled.{AreSpelled}
+use Rattle.rn_syntax.specs.Lent.{items_literals}
 use Rattle.rn_syntax.specs.View.{item_view}
 use Rattle.rn_syntax.proofs.ProductionsRead.Rows.{So_far}
 use Rattle.rn_syntax.proofs.items.+inner_items.Given as goal
@@ -13,6 +14,7 @@ invariant-inner_items-inner l = record {
   further : l.fn.at ≤ l.end;
   inside : l.end ≤ length l.tokens;
   so_far : AreSpelled l.tokens → So_far AreInnerItems IsInnerItem (map item_view l.items.items) (rest l.tokens l.fn.at) (rest l.tokens l.end);
+  no_include : items_literals l.items.items ≡ [];
 }
 
 abbrev pub decreases-inner_items-inner : goal.decreases-inner_items-inner

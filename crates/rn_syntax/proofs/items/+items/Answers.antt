@@ -1,9 +1,11 @@
-use Rattle.std.proofs.Common.{◌+◌, ◌∷◌, [], ◌∙◌, sym, ap, map, arith, refl}
+use Rattle.std.proofs.Common.{◌+◌, ◌∷◌, [], ◌∙◌, sym, ap, map, arith, refl, subst}
 use Rattle.std.proofs.lemmas.List.{map-append}
 use Rattle.std.proofs.lemmas.Result.{err_from_is_err_and}
 use Rattle.rn_syntax.specs.Grammar.{AreItems}
 use Rattle.rn_syntax.specs.inside.Follow.{Anything}
+use Rattle.rn_syntax.specs.Lent.{AreLent, item_literals, items_literals}
 use Rattle.rn_syntax.specs.View.{item_view}
+use Rattle.rn_syntax.proofs.ProductionsRead.Lending.{widened, more_lent, lends_on, lends_none, lends_include, lends_behind}
 use Rattle.rn_syntax.proofs.ProductionsRead.Compose.{on_fault, took_same, took_upto, stuck_upto, reads_upto, took_gives, upto_then}
 use Rattle.rn_syntax.proofs.ProductionsRead.Next.{token_at}
 use Rattle.rn_syntax.proofs.ProductionsRead.Rows.{so_far_row, so_far_note, stuck_note, stuck_annotation, stuck_row, so_far_took, so_far_same}
@@ -15,8 +17,11 @@ use Rattle.rn_syntax.proofs.items.+items.Goals as goal
 pub items-returns-clause-reads : goal.items-returns-clause-reads
 items-returns-clause-reads t c = reads_upto (λ v. map item_view v.items) c.args.tokens.now c.args.at c.args.at _ (λ r g. g) (λ s. items_behind_none _ (ap (map item_view) c.new.ensures.items)) c.items_behind.ensures.reads
 
+pub items-returns-clause-lent : goal.items-returns-clause-lent
+items-returns-clause-lent t c = lends_behind c.args.tokens.now c.args.at c.args.at _ (λ v. items_literals v.items) c.items_behind.result (omega arith) (λ s. subst (λ l. AreLent c.args.tokens.now c.args.at c.args.at (items_literals l)) (sym c.new.ensures.items) tt) c.items_behind.ensures.lent
+
 pub items_behind-items-init : goal.items_behind-items-init
-items_behind-items-init t c = record { further = omega arith; inside = c.requires; so_far = λ s. behind_so_far _ _ }
+items_behind-items-init t c = record { further = omega arith; inside = c.requires; so_far = λ s. behind_so_far _ _; lent = λ s from l h. h }
 
 pub items_behind-items-preserved-then-begins_note : goal.items_behind-items-preserved-then-begins_note
 items_behind-items-preserved-then-begins_note t c =
@@ -25,6 +30,7 @@ items_behind-items-preserved-then-begins_note t c =
       further = omega (arith, c.in_ok-end.ensures.inside.further);
       inside = c.in_ok-end.ensures.inside.inside;
       so_far = λ s. so_far_note item_row _ (c.items.invariant.so_far s) here.2 (sym c.if-begins_note.ensures.is) (c.in_ok-end.ensures.skips s);
+      lent = λ s from l h. widened c.args.tokens.now from from c.items.end c.in_ok-end.end (items_literals c.items.items.items) (omega arith) (omega (arith, c.in_ok-end.ensures.inside.further)) (c.items.invariant.lent s from l h);
     }
 
 pub items_behind-items-preserved : goal.items_behind-items-preserved
@@ -33,6 +39,8 @@ items_behind-items-preserved t c = record {
   inside = c.in_ok-item.ensures.inside.inside;
   so_far = λ s. so_far_same _ _ (sym (ap (map item_view) c.in_ok-push.ensures.items ∙ map-append item_view c.items.items.items (c.in_ok-item.item ∷ [])))
       (so_far_row item_row _ (c.items.invariant.so_far s) (c.in_ok-body.ensures.skips s) (c.in_ok-item.ensures.reads s));
+  lent = λ s from l h. more_lent c.args.tokens.now from c.items.end c.in_ok-body.body c.in_ok-item.behind c.items.items.items _ c.in_ok-item.item (omega (arith, l, c.items.invariant.further)) (omega (arith, c.in_ok-body.ensures.inside.further))
+      (omega (arith, c.in_ok-item.ensures.inside.further)) c.in_ok-push.ensures.items (c.items.invariant.lent s from l h) (c.in_ok-item.ensures.lent s);
 }
 
 pub items_behind-returns-in_err-end-clause-reads : goal.items_behind-returns-in_err-end-clause-reads
@@ -54,7 +62,22 @@ items_behind-returns-in_err-item-clause-reads t c =
 pub items_behind-returns-clause-reads : goal.items_behind-returns-clause-reads
 items_behind-returns-clause-reads t c = λ s. so_far_took item_row _ (c.items.invariant.so_far s) (sym c.items-test.ensures.is)
 
+pub items_behind-returns-clause-lent : goal.items_behind-returns-clause-lent
+items_behind-returns-clause-lent t c = c.items.invariant.lent
+
 -- ---- one item
+
+pub item-returns-in-Div-clause-lent : goal.item-returns-in-Div-clause-lent
+item-returns-in-Div-clause-lent t c = lends_on c.args.tokens.now c.args.at (c.args.at + 1) item_literals c.div.result (omega arith) c.div.ensures.lent
+
+pub item-returns-in-Include-clause-lent : goal.item-returns-in-Include-clause-lent
+item-returns-in-Include-clause-lent t c = lends_include c.args.tokens.now c.args.at _ _ item_literals c.include.result (rw c.in-Include.is at c.in-Keyword.ensures.next.1) c.include.ensures.inside c.include.ensures.lent
+
+pub item-returns-in_default-keyword-clause-lent : goal.item-returns-in_default-keyword-clause-lent
+item-returns-in_default-keyword-clause-lent t c = lends_none c.args.tokens.now c.args.at item_literals c.component.result c.component.ensures.no_include
+
+pub item-returns-in_default-clause-lent : goal.item-returns-in_default-clause-lent
+item-returns-in_default-clause-lent t c = lends_none c.args.tokens.now c.args.at item_literals c.component-in_default.result c.component-in_default.ensures.no_include
 
 pub item-returns-in-Div-clause-reads : goal.item-returns-in-Div-clause-reads
 item-returns-in-Div-clause-reads t c =
@@ -94,5 +117,9 @@ div-returns-in_err-behind-clause-reads t c =
 
 pub div-returns-clause-reads : goal.div-returns-clause-reads
 div-returns-clause-reads t c = λ s.
-    took_same (sym c.division.ensures)
+    took_same (sym c.division.ensures.tree)
     (took_upto (upto_then (open_read AreItems DivGives Anything can_items can_div (c.in_ok-inside.ensures.passes s).1) (brace_read AreItems DivGives Anything can_items can_div (c.in_ok-items.ensures.reads s) (c.in_ok-behind.ensures.passes s).1)) (took_gives _ _))
+
+pub div-returns-clause-lent : goal.div-returns-clause-lent
+div-returns-clause-lent t c = λ s. subst (AreLent c.args.tokens.now c.args.at c.in_ok-behind.behind) (sym c.division.ensures.literals)
+    (widened c.args.tokens.now c.args.at c.in_ok-inside.inside c.in_ok-items.end c.in_ok-behind.behind _ (omega (arith, c.in_ok-inside.ensures.inside.further)) (omega (arith, c.in_ok-behind.ensures.inside.further)) (c.in_ok-items.ensures.lent s))

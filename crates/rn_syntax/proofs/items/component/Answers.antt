@@ -17,7 +17,7 @@ returns-in_err-body-in-Ident-clause-reads c =
 
 pub returns-in_ok-body-in-Ident-clause-reads : goal.returns-in_ok-body-in-Ident-clause-reads
 returns-in_ok-body-in-Ident-clause-reads c = λ s.
-    took_same (sym c.define.ensures) (body_took _ (define_at c.in-Ident.ensures.next.1) (method_read c.args.tokens.now c.args.at (c.in_ok-method-in-Ident.ensures.reads s)) (c.in_ok-body-in-Ident.ensures.reads s))
+    took_same (sym c.define.ensures.tree) (body_took _ (define_at c.in-Ident.ensures.next.1) (method_read c.args.tokens.now c.args.at (c.in_ok-method-in-Ident.ensures.reads s)) (c.in_ok-body-in-Ident.ensures.reads s))
 
 pub returns-in_err-method-in-Start-clause-reads : goal.returns-in_err-method-in-Start-clause-reads
 returns-in_err-method-in-Start-clause-reads c =
@@ -32,7 +32,7 @@ returns-in_err-body-in-Start-clause-reads c =
 
 pub returns-in_ok-body-in-Start-clause-reads : goal.returns-in_ok-body-in-Start-clause-reads
 returns-in_ok-body-in-Start-clause-reads c = λ s.
-    took_same (sym c.start.ensures) (body_took _ (start_at (rw c.in-Start.is at c.in-Keyword.ensures.next.1)) (method_read c.args.tokens.now c.args.at (c.in_ok-method-in-Start.ensures.reads s)) (c.in_ok-body-in-Start.ensures.reads s))
+    took_same (sym c.start.ensures.tree) (body_took _ (start_at (rw c.in-Start.is at c.in-Keyword.ensures.next.1)) (method_read c.args.tokens.now c.args.at (c.in_ok-method-in-Start.ensures.reads s)) (c.in_ok-body-in-Start.ensures.reads s))
 
 pub returns-in_default-keyword-clause-reads : goal.returns-in_default-keyword-clause-reads
 returns-in_default-keyword-clause-reads c = λ s. no_start c.in-Keyword.ensures.next.1 c.in_default-keyword.not-Start

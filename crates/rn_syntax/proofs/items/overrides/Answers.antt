@@ -6,6 +6,7 @@ use Rattle.rn_syntax.specs.View.{item_view}
 use Rattle.rn_syntax.proofs.ProductionsRead.Compose.{on_fault, took_same, took_upto, stuck_upto, upto_then, took_gives}
 use Rattle.rn_syntax.proofs.ProductionsRead.Grouping.{list_stuck, list_read, brace_stuck, brace_read, can_inner}
 use Rattle.rn_syntax.proofs.ProductionsRead.Inclusion.{ListGives, can_list, override_at, no_override}
+use Rattle.rn_syntax.specs.Lent.{items_literals}
 use Rattle.rn_syntax.proofs.items.overrides.Goals as goal
 
 pub returns-in_default-clause-reads : goal.returns-in_default-clause-reads
@@ -25,3 +26,6 @@ returns-in_err-behind-clause-reads c =
 pub returns-clause-reads : goal.returns-clause-reads
 returns-clause-reads c = λ s.
     took_upto (upto_then (override_at c.in-LeftBrace.ensures.next.1) (brace_read AreInnerItems ListGives (Starts no_brace) can_inner can_list (c.in_ok-items.ensures.reads s) (c.in_ok-behind.ensures.passes s).1)) (took_gives _ _)
+
+pub returns-in_default-clause-no_include : goal.returns-in_default-clause-no_include
+returns-in_default-clause-no_include c = ap items_literals c.new.ensures.items

@@ -3,7 +3,7 @@ use Rattle.std.proofs.Common.{◌≡◌, ap, ◌∙◌, sym, subst, true}
 use Rattle.std.specs.Str.{chars, encode_utf8_all}
 use Rattle.std.proofs.lemmas.Option.{slice_get-get_or, get_or_from_slice_get}
 use Rattle.rn_text.specs.Segments.{is_segment, segment_text}
-use Rattle.rn_syntax.specs.inside.Borrowed.{is_written}
+use Rattle.rn_syntax.specs.Lent.{is_written}
 use Rattle.rn_syntax.proofs.ProductionsRead.Segmented.{segment_took, no_segment}
 use Rattle.rn_syntax.proofs.literals.segment.Goals as goal
 

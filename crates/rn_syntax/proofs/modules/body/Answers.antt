@@ -6,6 +6,8 @@ use Rattle.rn_syntax.specs.View.{item_view}
 use Rattle.rn_syntax.proofs.ProductionsRead.Compose.{on_fault, passed_on, reads_upto}
 use Rattle.rn_syntax.proofs.ProductionsRead.Next.{terminal_at}
 use Rattle.rn_syntax.proofs.ProductionsRead.Modular.{body_grammar, body_items, body_annotation, body_annotated}
+use Rattle.rn_syntax.specs.Lent.{items_literals}
+use Rattle.rn_syntax.proofs.ProductionsRead.Lending.{lends_on}
 use Rattle.rn_syntax.proofs.modules.body.Goals as goal
 
 pub returns-in_err-behind-clause-reads : goal.returns-in_err-behind-clause-reads
@@ -33,3 +35,9 @@ returns-clause-inside c = c.items.ensures.inside
 
 pub returns-clause-reads : goal.returns-clause-reads
 returns-clause-reads c = reads_upto (λ v. map item_view v.items) c.args.tokens.now c.args.at c.args.at _ (λ r g. g) (λ s. body_items _ _ c.next.result c.next.ensures.next c.in_default.not-LeftBracket c.if-is_keyword.ensures.is) c.items.ensures.reads
+
+pub returns-in-LeftBracket-clause-lent : goal.returns-in-LeftBracket-clause-lent
+returns-in-LeftBracket-clause-lent c = lends_on c.args.tokens.now c.args.at c.in_ok-behind.behind (λ v. items_literals v.items) c.annotated_body.result (omega (arith, c.in_ok-behind.ensures.inside.further)) c.annotated_body.ensures.lent
+
+pub returns-then-is_keyword-clause-lent : goal.returns-then-is_keyword-clause-lent
+returns-then-is_keyword-clause-lent c = lends_on c.args.tokens.now c.args.at (c.args.at + 1) (λ v. items_literals v.items) c.grammar.result (omega arith) c.grammar.ensures.lent

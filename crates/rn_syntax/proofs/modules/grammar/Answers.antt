@@ -1,6 +1,8 @@
+use Rattle.std.proofs.Common.{arith}
 use Rattle.std.proofs.lemmas.Result.{err_from_is_err_and}
 use Rattle.rn_syntax.proofs.ProductionsRead.Compose.{on_fault}
 use Rattle.rn_syntax.proofs.ProductionsRead.Modular.{grammar_brace, grammar_items, grammar_close, grammar_follows, grammar_took}
+use Rattle.rn_syntax.proofs.ProductionsRead.Lending.{widened}
 use Rattle.rn_syntax.proofs.modules.grammar.Goals as goal
 
 pub returns-in_err-inside-clause-reads : goal.returns-in_err-inside-clause-reads
@@ -25,3 +27,7 @@ returns-in_err-end-clause-reads c =
 
 pub returns-clause-reads : goal.returns-clause-reads
 returns-clause-reads c = λ s. grammar_took (c.in_ok-inside.ensures.passes s).1 (c.in_ok-items.ensures.reads s) (c.in_ok-behind.ensures.passes s).1 (c.in_ok-end.ensures.skips s)
+
+pub returns-clause-lent : goal.returns-clause-lent
+returns-clause-lent c = λ s. widened c.args.tokens.now c.args.at c.in_ok-inside.inside c.in_ok-items.close c.in_ok-end.end _ (omega (arith, c.in_ok-inside.ensures.inside.further))
+    (omega (arith, c.in_ok-behind.ensures.inside.further, c.in_ok-end.ensures.inside.further)) (c.in_ok-items.ensures.lent s)
