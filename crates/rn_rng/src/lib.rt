@@ -9,6 +9,7 @@ mod data_xml;
 mod escapes;
 pub mod grammar_xml;
 mod lines;
+pub mod meaning_laws;
 mod namespaces;
 mod pattern_xml;
 mod tag;
