@@ -8,6 +8,7 @@ mod class_xml;
 mod data_xml;
 mod escapes;
 pub mod grammar_xml;
+pub mod laws;
 mod lines;
 mod namespaces;
 mod pattern_xml;
