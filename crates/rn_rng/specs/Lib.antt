@@ -5,3 +5,8 @@ pub mod PrintedSchemas
 pub mod SchemaElements
 pub mod SchemaExamples
 pub mod Translation
+pub mod Layout
+pub mod XmlCharacters
+pub mod XmlTags
+pub mod XmlDocument
+pub mod SpellableItems

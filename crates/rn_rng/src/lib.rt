@@ -8,6 +8,7 @@ mod class_xml;
 mod data_xml;
 mod escapes;
 pub mod grammar_xml;
+pub mod laws;
 mod lines;
 pub mod meaning_laws;
 mod namespaces;

@@ -87,7 +87,7 @@ module _ (inherited : Text) (ds : List Declaration) (x : IsXml inherited) (d : A
   library_xml : (p : Text) → IsXml (unwrap_or (library_of ds p) [])
   library_xml p = unwrapped (library_of ds p) (chosen IsXmlOption (bytes_eq p (codes "xsd")) (Some xsd_uri) (declared_library ds p) xsd_library (library_good ds p d))
 
-  type_xml : (y : Datatype) → IsXml (type_library inherited ds y)
+  pub type_xml : (y : Datatype) → IsXml (type_library inherited ds y)
   type_xml (t.string i) = xml_nothing
   type_xml (t.token i) = xml_nothing
   type_xml (t.named p l i) = library_xml p
