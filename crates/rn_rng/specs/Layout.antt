@@ -1,6 +1,6 @@
 -- The text of an element (XML 1.0 Fifth Edition, 2.1 to 2.4, 2.8, 2.11, 3.1, 3.3.3), in one layout: each tag has a line of its own, behind two spaces for each element
 -- that is open, 64 at most; what holds a text has one line with both tags. A text is its UTF-8 bytes.
-use Rattle.std.specs.Prelude.{ℕ, zero, suc, ◌+◌, Bool, true, false, ◌||◌, if◌then◌else◌, nat_eq, nat_lt, List, [], ◌∷◌, ◌++◌, flat_map, bytes_eq, codes}
+use Rattle.std.specs.Prelude.{ℕ, zero, suc, ◌+◌, Bool, ◌||◌, if◌then◌else◌, nat_eq, nat_lt, List, [], ◌∷◌, ◌++◌, flat_map, bytes_eq, codes}
 use Rattle.rn_text.specs.Texts.{Text}
 use Rattle.rn_pattern.specs.Document.{Attribute, Item, node, string, Items, no_items, more_items}
 
@@ -48,9 +48,9 @@ attribute_text a = codes " " ++ (a.local ++ (codes "=\"" ++ (escaped in_attribut
 abbrev pub attributes_text : List Attribute → Text
 attributes_text = flat_map attribute_text
 
--- a tag without its end
-abbrev pub tag_front : Text → List Attribute → Text
-tag_front local attributes = codes "<" ++ (local ++ attributes_text attributes)
+-- the indent and a tag without its end; n: its level
+abbrev pub tag_front : (n : ℕ) → Text → List Attribute → Text
+tag_front n local attributes = indent n ++ (codes "<" ++ (local ++ attributes_text attributes))
 
 -- an end tag and the end of its line
 abbrev pub end_tag : Text → Text
@@ -76,7 +76,7 @@ one_line local content = codes ">" ++ (held_text content ++ end_tag local)
 abbrev mutual
   pub item_text : (n : ℕ) → Item → Text
   item_text n (string s) = escaped in_element s
-  item_text n (node uri local attributes content) = indent n ++ (tag_front local attributes ++ (if holds_text local then one_line local content else rest_text n local content))
+  item_text n (node uri local attributes content) = tag_front n local attributes ++ (if holds_text local then one_line local content else rest_text n local content)
 
   -- the rest of an element behind the front of its start tag
   pub rest_text : (n : ℕ) → Text → Items → Text
@@ -88,6 +88,10 @@ abbrev mutual
   items_text n (more_items i is) = item_text n i ++ items_text n is
 
 -- ---- documents
+
+-- the most bytes that the text of a schema may have: 64 MiB
+abbrev pub max_xml : ℕ
+max_xml = 67108864
 
 -- the XML declaration (2.8)
 abbrev pub declaration_text : Text
@@ -101,4 +105,4 @@ xmlns uri = record { uri = []; local = codes "xmlns"; content = uri }
 abbrev pub xml_text : Item → Text
 xml_text (string s) = []
 xml_text (node uri local attributes content) =
-    declaration_text ++ (tag_front local (xmlns uri ∷ attributes) ++ (codes ">\n" ++ (items_text 1 content ++ end_tag local)))
+    declaration_text ++ (tag_front 0 local (xmlns uri ∷ attributes) ++ (codes ">\n" ++ (items_text 1 content ++ end_tag local)))

@@ -1,2 +1,4 @@
 pub mod Layout
 pub mod Translation
+pub mod Written
+pub mod inside

@@ -1,6 +1,6 @@
 -- The element that a module without includes is in the XML syntax (compact syntax, appendix A; RELAX NG 2001, 3), in one spelling: of what RELAX NG 2001, 4.12
 -- adds by itself nothing is written, and `ns` and `datatypeLibrary` only where a name or a datatype doesn't inherit its own (4.3, 4.8 and 4.9).
-use Rattle.std.specs.Prelude.{Bool, not, ◌&&◌, if◌then◌else◌, List, [], ◌∷◌, ◌++◌, Option, Some, None, bytes_eq, codes}
+use Rattle.std.specs.Prelude.{Bool, true, false, not, ◌&&◌, if◌then◌else◌, List, [], ◌∷◌, ◌++◌, Option, Some, None, bytes_eq, codes}
 use Rattle.rn_text.specs.Texts.{Text}
 use Rattle.rn_pattern.specs.Document.{Attribute, Item, node, string, Items, no_items, more_items}
 use Rattle.rn_syntax.specs.declared.token.Method.{Method}
@@ -42,10 +42,13 @@ text_items (c ∷ s) = one_item (string (c ∷ s))
 
 -- ---- what RELAX NG 2001, 4.12 adds by itself
 
--- an item in an element whose children are in an element `wrapper` anyhow: such a one leaves its children alone, if it has some
+abbrev pub has_items : Items → Bool
+has_items no_items = false
+has_items (more_items i is) = true
+
+-- an item in an element whose children are in an element `wrapper` anyhow: of such a one its children alone, if it has some
 abbrev pub unwrapped : (wrapper : Text) → Item → Items
-unwrapped wrapper (node uri local attributes (more_items i is)) = if bytes_eq local wrapper then more_items i is else one_item (node uri local attributes (more_items i is))
-unwrapped wrapper (node uri local attributes no_items) = one_item (node uri local attributes no_items)
+unwrapped wrapper (node uri local attributes content) = if bytes_eq local wrapper && has_items content then content else one_item (node uri local attributes content)
 unwrapped wrapper (string s) = one_item (string s)
 
 -- in a group
@@ -56,10 +59,13 @@ grouped = unwrapped (codes "group")
 abbrev pub except_element : Item → Item
 except_element i = element (codes "except") [] (unwrapped (codes "choice") i)
 
+abbrev pub is_text : Pattern → Bool
+is_text t.text = true
+is_text p = false
+
 -- an attribute without content has any text
 abbrev pub attribute_content : Pattern → Item → Items
-attribute_content t.text i = no_items
-attribute_content p i = one_item i
+attribute_content p i = if is_text p then no_items else one_item i
 
 -- ---- names
 
@@ -86,6 +92,42 @@ name_attributes taken uri local = attribute (codes "name") (qualified uri local)
 abbrev pub ns_inside : (ns : Text) → (taken : Text) → (uri : Text) → Text
 ns_inside ns taken uri = if needs_ns taken uri then uri else ns
 
+abbrev pub name_local : Name → Text
+name_local (t.local l) = l
+name_local (t.prefixed p l i) = l
+
+abbrev pub any_local : AnyName → Text
+any_local t.any = codes "anyName"
+any_local (t.any_of p i) = codes "nsName"
+
+-- ---- datatypes, patterns, items
+
+-- library: the nearest `datatypeLibrary` around
+abbrev pub library_attributes : (library : Text) → (uri : Text) → List Attribute
+library_attributes library uri = if bytes_eq uri library then [] else attribute (codes "datatypeLibrary") uri ∷ []
+
+abbrev pub param_element : Text × Text → Item
+param_element e = element (codes "param") (attribute (codes "name") e.0 ∷ []) (text_items e.1)
+
+abbrev pub params_xml : Params → Items
+params_xml [] = no_items
+params_xml (e ∷ es) = more_items (param_element e) (params_xml es)
+
+abbrev pub repetition_local : Postfix → Text
+repetition_local r.Question = codes "optional"
+repetition_local r.Star = codes "zeroOrMore"
+repetition_local r.Plus = codes "oneOrMore"
+
+abbrev pub operator_local : Operator → Text
+operator_local o.Comma = codes "group"
+operator_local o.Ampersand = codes "interleave"
+operator_local o.Bar = codes "choice"
+
+abbrev pub combine_attributes : Method → List Attribute
+combine_attributes w.Plain = []
+combine_attributes w.Choice = attribute (codes "combine") (codes "choice") ∷ []
+combine_attributes w.Interleave = attribute (codes "combine") (codes "interleave") ∷ []
+
 -- ---- what a module's declarations give
 
 -- ds: the declarations of the module, which inherits no namespace
@@ -95,18 +137,10 @@ module _ (ds : List Declaration) where
   name_uri own (t.local l) = own
   name_uri own (t.prefixed p l i) = namespace_of [] ds p
 
-  abbrev pub name_local : Name → Text
-  name_local (t.local l) = l
-  name_local (t.prefixed p l i) = l
-
   -- ---- name classes; ns: the nearest `ns` around, or none where there is none
 
   abbrev pub name_element : (ns own : Text) → Name → Item
   name_element ns own n = element (codes "name") (ns_attributes ns (name_uri own n)) (text_items (qualified (name_uri own n) (name_local n)))
-
-  abbrev pub any_local : AnyName → Text
-  any_local t.any = codes "anyName"
-  any_local (t.any_of p i) = codes "nsName"
 
   abbrev pub any_attributes : AnyName → List Attribute
   any_attributes t.any = []
@@ -131,10 +165,7 @@ module _ (ds : List Declaration) where
     classes_xml ns own t.no_classes = no_items
     classes_xml ns own (t.class c cs) = more_items (class_xml ns own c) (classes_xml ns own cs)
 
-  -- ---- datatypes; library: the nearest `datatypeLibrary` around
-
-  abbrev pub library_attributes : (library : Text) → (uri : Text) → List Attribute
-  library_attributes library uri = if bytes_eq uri library then [] else attribute (codes "datatypeLibrary") uri ∷ []
+  -- ---- datatypes
 
   abbrev pub type_attributes : (library : Text) → Datatype → List Attribute
   type_attributes library d = attribute (codes "type") (type_name [] ds d) ∷ library_attributes library (type_library [] ds d)
@@ -144,38 +175,28 @@ module _ (ds : List Declaration) where
   value_attributes library None = []
   value_attributes library (Some d) = type_attributes library d
 
-  abbrev pub param_element : Text × Text → Item
-  param_element e = element (codes "param") (attribute (codes "name") e.0 ∷ []) (text_items e.1)
-
-  abbrev pub params_xml : Params → Items
-  params_xml [] = no_items
-  params_xml (e ∷ es) = more_items (param_element e) (params_xml es)
-
   -- ---- patterns
 
-  abbrev pub repetition_local : Postfix → Text
-  repetition_local r.Question = codes "optional"
-  repetition_local r.Star = codes "zeroOrMore"
-  repetition_local r.Plus = codes "oneOrMore"
+  -- the name class of an element or an attribute: one name is its `name`, any other class its first child (RELAX NG 2001, 4.8).
+  -- taken: the namespace that a name has without `ns`
+  abbrev pub class_attributes : (taken own : Text) → NameClass → List Attribute
+  class_attributes taken own (t.name n) = name_attributes taken (name_uri own n) (name_local n)
+  class_attributes taken own c = []
 
-  abbrev pub operator_local : Operator → Text
-  operator_local o.Comma = codes "group"
-  operator_local o.Ampersand = codes "interleave"
-  operator_local o.Bar = codes "choice"
+  abbrev pub class_items : (ns own : Text) → NameClass → Items
+  class_items ns own (t.name n) = no_items
+  class_items ns own c = one_item (class_xml ns own c)
 
-  -- an element with a name class: one name is its attribute, any other class its first child (RELAX NG 2001, 4.8).
-  -- taken: the namespace that a name has without `ns`; inside: what it holds behind the class under the nearest `ns`
-  abbrev pub named_element : (local : Text) → (ns taken own : Text) → NameClass → (inside : Text → Items) → Item
-  named_element local ns taken own (t.name n) inside = element local (name_attributes taken (name_uri own n) (name_local n)) (inside (ns_inside ns taken (name_uri own n)))
-  named_element local ns taken own (t.all a) inside = element local [] (more_items (class_xml ns own (t.all a)) (inside ns))
-  named_element local ns taken own (t.all_but a c) inside = element local [] (more_items (class_xml ns own (t.all_but a c)) (inside ns))
-  named_element local ns taken own (t.choice cs) inside = element local [] (more_items (class_xml ns own (t.choice cs)) (inside ns))
+  -- the nearest `ns` behind the name class
+  abbrev pub class_inside : (ns taken own : Text) → NameClass → Text
+  class_inside ns taken own (t.name n) = ns_inside ns taken (name_uri own n)
+  class_inside ns taken own c = ns
 
   -- ns: the nearest `ns` around, or none where there is none; library: the nearest `datatypeLibrary`
   abbrev mutual
     pub pattern_xml : (ns library : Text) → Pattern → Item
-    pattern_xml ns library (t.element c p) = named_element (codes "element") ns ns (default_of [] ds) c (λ inside. grouped (pattern_xml inside library p))
-    pattern_xml ns library (t.attribute c p) = named_element (codes "attribute") ns [] [] c (λ inside. attribute_content p (pattern_xml inside library p))
+    pattern_xml ns library (t.element c p) = element (codes "element") (class_attributes ns (default_of [] ds) c) (items_then (class_items ns (default_of [] ds) c) (grouped (pattern_xml (class_inside ns ns (default_of [] ds) c) library p)))
+    pattern_xml ns library (t.attribute c p) = element (codes "attribute") (class_attributes [] [] c) (items_then (class_items ns [] c) (attribute_content p (pattern_xml (class_inside ns [] [] c) library p)))
     pattern_xml ns library (t.list p) = element (codes "list") [] (grouped (pattern_xml ns library p))
     pattern_xml ns library (t.mixed p) = element (codes "mixed") [] (grouped (pattern_xml ns library p))
     pattern_xml ns library t.empty = element (codes "empty") [] no_items
@@ -193,11 +214,6 @@ module _ (ds : List Declaration) where
     patterns_xml ns library (t.pattern p ps) = more_items (pattern_xml ns library p) (patterns_xml ns library ps)
 
   -- ---- items
-
-  abbrev pub combine_attributes : Method → List Attribute
-  combine_attributes w.Plain = []
-  combine_attributes w.Choice = attribute (codes "combine") (codes "choice") ∷ []
-  combine_attributes w.Interleave = attribute (codes "combine") (codes "interleave") ∷ []
 
   -- a pattern right below the root, which has no `ns` and the library of XML Schema
   abbrev pub body_xml : Pattern → Item

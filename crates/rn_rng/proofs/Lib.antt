@@ -1,0 +1,7 @@
+pub mod Elements
+pub mod Finished
+pub mod References
+pub mod Rows
+pub mod SchemaTexts
+pub mod Views
+pub mod Writing
