@@ -1,2 +1,9 @@
 pub mod Meaning
 pub mod Documents
+pub mod Elements
+pub mod Finished
+pub mod References
+pub mod Rows
+pub mod SchemaTexts
+pub mod Views
+pub mod Writing

@@ -1,6 +1,6 @@
 -- The text of an element (XML 1.0 Fifth Edition, 2.1 to 2.4, 2.8, 2.11, 3.1, 3.3.3), in one layout: each tag has a line of its own, behind two spaces for each element
 -- that is open, 64 at most; what holds a text has one line with both tags. A text is its UTF-8 bytes.
-use Rattle.std.specs.Prelude.{ℕ, zero, suc, ◌+◌, Bool, true, false, ◌||◌, if◌then◌else◌, nat_eq, nat_lt, List, [], ◌∷◌, ◌++◌, flat_map, bytes_eq, codes}
+use Rattle.std.specs.Prelude.{ℕ, zero, suc, ◌+◌, Bool, ◌||◌, if◌then◌else◌, nat_eq, nat_lt, List, [], ◌∷◌, ◌++◌, flat_map, bytes_eq, codes}
 use Rattle.rn_text.specs.Texts.{Text}
 use Rattle.rn_pattern.specs.Document.{Attribute, Item, node, string, Items, no_items, more_items}
 

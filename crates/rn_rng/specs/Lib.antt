@@ -10,3 +10,5 @@ pub mod XmlCharacters
 pub mod XmlTags
 pub mod XmlDocument
 pub mod SpellableItems
+pub mod Written
+pub mod inside

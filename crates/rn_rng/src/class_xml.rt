@@ -1,16 +1,31 @@
 // Name classes as XML elements (RELAX NG 2001, 3, nameClass).
+ghost use Rattle.std.specs.Prelude.{◌≡◌, ◌≢◌, [], codes, MatchOption};
+ghost use Rattle.rn_syntax.specs.Tree as tree;
+ghost use Rattle.rn_syntax.specs.View.{any_view, class_view, classes_view};
+ghost use Rattle.rn_rng.specs.Layout.{item_text};
+ghost use Rattle.rn_rng.specs.Translation as translation;
+ghost use Rattle.rn_rng.specs.Translation.{any_attributes, any_inside, any_local, class_xml, except_element, name_local, name_uri, ns_attributes, qualified, text_items};
+ghost use Rattle.rn_rng.specs.inside.Views.{class_at, classes_at, given, optional_view, tag_attributes, uri_of};
+ghost use Rattle.rn_rng.specs.inside.Writes.{Writes};
 
 use crate::lines::Writer;
-use crate::namespaces::{Namespaces, Place, QualifiedName, UriSource};
+use crate::namespaces::{Namespaces, QualifiedName, UriSource};
+use crate::place::Place;
 use crate::tag::{Attribute, Tag};
-use rn_syntax::{AnyName, Nc};
+use rn_syntax::{AnyName, Nc, Operator};
 
 /// The name that a class is, if it is one; without a prefix it is in the namespace `own`.
 pub(crate) fn one_name<'c>(
     namespaces: &Namespaces<'_, '_>,
     own: UriSource,
     class: &'c Nc<'_>,
-) -> Option<QualifiedName<'c>> {
+) -> Option<QualifiedName<'c>>
+    ensures { MatchOption result ((n : tree.Name) → class_view class.now ≢ tree.name n)
+        (λ q. (n : tree.Name) × (class_view class.now ≡ tree.name n)
+        × (uri_of namespaces.now q.namespace
+        ≡ name_uri (given namespaces.now) (uri_of namespaces.now own) n)
+        × (q.local.now ≡ name_local n)) }
+{
     match class {
         Nc::Local(local) => Some(QualifiedName {
             namespace: own,
@@ -31,7 +46,12 @@ fn write_name(
     place: Place,
     namespace: UriSource,
     local: &str,
-) {
+)
+    ensures { let uri = uri_of namespaces.now namespace in
+        Writes (item_text place.level (translation.element (codes "name")
+        (ns_attributes (uri_of namespaces.now place.namespace) uri)
+        (text_items (qualified uri local.now)))) writer.old writer.new }
+{
     let tag = Tag {
         element: "name",
         first: namespaces.ns_attribute(place.namespace, namespace),
@@ -41,7 +61,9 @@ fn write_name(
 }
 
 /// The element of all names, or of all of a namespace.
-fn any_element(any: &AnyName<'_>) -> &'static str {
+fn any_element(any: &AnyName<'_>) -> &'static str
+    ensures { result.now ≡ any_local (any_view any.now) }
+{
     match any {
         AnyName::Any => "anyName",
         AnyName::AnyOf(_) => "nsName",
@@ -49,10 +71,9 @@ fn any_element(any: &AnyName<'_>) -> &'static str {
 }
 
 /// The attribute of all names of a namespace.
-fn any_attribute<'t>(
-    namespaces: &'t Namespaces<'_, '_>,
-    any: &AnyName<'_>,
-) -> Option<Attribute<'t>> {
+fn any_attribute<'t>(namespaces: &'t Namespaces<'_, '_>, any: &AnyName<'_>) -> Option<Attribute<'t>>
+    ensures { optional_view result ≡ any_attributes (given namespaces.now) (any_view any.now) }
+{
     match any {
         AnyName::Any => None,
         AnyName::AnyOf(prefix) => {
@@ -63,7 +84,11 @@ fn any_attribute<'t>(
 }
 
 /// The tag of all names, or of all of a namespace.
-fn any_tag<'t>(namespaces: &'t Namespaces<'_, '_>, any: &AnyName<'_>) -> Tag<'t> {
+fn any_tag<'t>(namespaces: &'t Namespaces<'_, '_>, any: &AnyName<'_>) -> Tag<'t>
+    ensures element { result.element.now ≡ any_local (any_view any.now) }
+    ensures attributes { tag_attributes result
+        ≡ any_attributes (given namespaces.now) (any_view any.now) }
+{
     Tag {
         element: any_element(any),
         first: any_attribute(namespaces, any),
@@ -71,31 +96,23 @@ fn any_tag<'t>(namespaces: &'t Namespaces<'_, '_>, any: &AnyName<'_>) -> Tag<'t>
     }
 }
 
-/// Writes all names, or all of a namespace.
-fn write_any(
-    writer: &mut Writer,
+/// The nearest `ns` in the element of all names, or of all of a namespace.
+fn namespace_inside(
     namespaces: &Namespaces<'_, '_>,
-    level: usize,
+    around: UriSource,
     any: &AnyName<'_>,
-) {
-    writer.empty(level, &any_tag(namespaces, any));
-}
-
-/// Writes the start tag of all names, or of all of a namespace, and answers the place in it.
-fn open_any(
-    writer: &mut Writer,
-    namespaces: &Namespaces<'_, '_>,
-    place: Place,
-    any: &AnyName<'_>,
-) -> Place {
-    writer.open(place.level, &any_tag(namespaces, any));
+) -> UriSource
+    ensures { uri_of namespaces.now result ≡ any_inside (given namespaces.now)
+        (uri_of namespaces.now around) (any_view any.now) }
+{
     match any {
-        AnyName::Any => place.inside(),
-        AnyName::AnyOf(prefix) => place.under(namespaces.namespace(prefix.name)),
+        AnyName::Any => around,
+        AnyName::AnyOf(prefix) => namespaces.namespace(prefix.name),
     }
 }
 
-/// Writes a name class, whose names without prefix are in the namespace `own`.
+/// Writes a name class, whose names without prefix are in the namespace `own`. Does nothing once the writer has
+/// stopped.
 #[cycle(class)]
 pub(crate) fn write_class(
     writer: &mut Writer,
@@ -103,7 +120,10 @@ pub(crate) fn write_class(
     place: Place,
     own: UriSource,
     class: &Nc<'_>,
-) {
+)
+    ensures { Writes (class_at namespaces.now place own (class_view class.now))
+        writer.old writer.new }
+{
     if writer.stopped.is_some() {
         return;
     }
@@ -113,35 +133,24 @@ pub(crate) fn write_class(
             let namespace = namespaces.namespace(name.prefix.name);
             write_name(writer, namespaces, place, namespace, name.local);
         }
-        Nc::All(any) => write_any(writer, namespaces, place.level, any),
+        Nc::All(any) => writer.empty(place.level, &any_tag(namespaces, any)),
         Nc::AllBut(any, except) => {
-            let inside = open_any(writer, namespaces, place, any);
-            write_except(writer, namespaces, inside, own, except);
+            writer.open(place.level, &any_tag(namespaces, any));
+            let namespace = namespace_inside(namespaces, place.namespace, any);
+            write_except(
+                writer,
+                namespaces,
+                place.inside().under(namespace),
+                own,
+                except,
+            );
             writer.close(place.level, any_element(any));
         }
         Nc::Choice(members) => write_choice(writer, namespaces, place, own, members),
     }
 }
 
-/// Writes a choice of name classes.
-#[cycle(class)]
-fn write_choice(
-    writer: &mut Writer,
-    namespaces: &Namespaces<'_, '_>,
-    place: Place,
-    own: UriSource,
-    members: &[Nc<'_>],
-) {
-    if members.is_empty() {
-        writer.empty_bare(place.level, "choice");
-        return;
-    }
-    writer.open_bare(place.level, "choice");
-    write_classes(writer, namespaces, place.inside(), own, members);
-    writer.close(place.level, "choice");
-}
-
-/// Writes an except.
+/// Writes an except, whose children are in a choice anyhow.
 #[cycle(class)]
 fn write_except(
     writer: &mut Writer,
@@ -149,41 +158,38 @@ fn write_except(
     place: Place,
     own: UriSource,
     except: &Nc<'_>,
-) {
+)
+    ensures { Writes (item_text place.level (except_element (class_xml (given namespaces.now)
+        (uri_of namespaces.now place.namespace) (uri_of namespaces.now own)
+        (class_view except.now)))) writer.old writer.new }
+{
     writer.open_bare(place.level, "except");
-    write_excepted(writer, namespaces, place.inside(), own, except);
+    let inside = place.inside().wrapped(Operator::Bar);
+    write_class(writer, namespaces, inside, own, except);
     writer.close(place.level, "except");
 }
 
-/// Writes the members of a choice, or the one class, where they stand in a choice anyhow (RELAX NG 2001, 4.12).
+/// Writes a choice: its members alone where they are in one anyhow.
 #[cycle(class)]
-fn write_excepted(
-    writer: &mut Writer,
-    namespaces: &Namespaces<'_, '_>,
-    place: Place,
-    own: UriSource,
-    except: &Nc<'_>,
-) {
-    match except {
-        Nc::Choice(members) => write_members(writer, namespaces, place, own, members),
-        _ => write_class(writer, namespaces, place, own, except),
-    }
-}
-
-/// Writes the members of a choice that stands in a choice anyhow; one without members as itself.
-#[cycle(class)]
-fn write_members(
+fn write_choice(
     writer: &mut Writer,
     namespaces: &Namespaces<'_, '_>,
     place: Place,
     own: UriSource,
     members: &[Nc<'_>],
-) {
+)
+    ensures { Writes (class_at namespaces.now place own (tree.choice (classes_view members.now)))
+        writer.old writer.new }
+{
     if members.is_empty() {
         writer.empty_bare(place.level, "choice");
-        return;
+    } else if place.is_in(Operator::Bar) {
+        write_classes(writer, namespaces, place.alone(), own, members);
+    } else {
+        writer.open_bare(place.level, "choice");
+        write_classes(writer, namespaces, place.inside(), own, members);
+        writer.close(place.level, "choice");
     }
-    write_classes(writer, namespaces, place, own, members);
 }
 
 /// Writes name classes one after the other.
@@ -194,7 +200,9 @@ fn write_classes(
     place: Place,
     own: UriSource,
     classes: &[Nc<'_>],
-) {
+)
+    ensures { Writes (classes_at namespaces.now place own classes.now) writer.old writer.new }
+{
     for class in classes {
         write_class(writer, namespaces, place, own, class);
     }

@@ -1,12 +1,27 @@
 // Datatypes, values and parameters as XML elements (RELAX NG 2001, 3 and 4.3).
+ghost use Rattle.std.specs.Prelude.{◌≡◌, ◌++◌, [], List, codes};
+ghost use Rattle.std.specs.Cow.{cow_str_bytes};
+ghost use Rattle.rn_syntax.specs.Tree as tree;
+ghost use Rattle.rn_syntax.specs.View.{datatype_view, param_view, params_view, type_view};
+ghost use Rattle.rn_assemble.specs.Resolve as resolve;
+ghost use Rattle.rn_rng.specs.Layout as layout;
+ghost use Rattle.rn_rng.specs.Layout.{item_text, items_text, tag_front};
+ghost use Rattle.rn_rng.specs.Translation as translation;
+ghost use Rattle.rn_rng.specs.Translation.{param_element, params_xml, text_items, type_attributes, value_attributes};
+ghost use Rattle.rn_rng.specs.inside.Views.{given, tag_attributes, uri_of};
+ghost use Rattle.rn_rng.specs.inside.Writes.{Writes};
 
 use crate::lines::Writer;
-use crate::namespaces::{Namespaces, Place, UriSource};
+use crate::namespaces::{Namespaces, UriSource};
+use crate::place::Place;
 use crate::tag::{Attribute, Tag};
 use rn_syntax::{Data, Datatype, Param, Value};
 
 /// The local name of a datatype.
-fn type_name<'t>(datatype: &'t Datatype<'_>) -> &'t str {
+fn type_name<'t>(datatype: &'t Datatype<'_>) -> &'t str
+    ensures { (ds : List tree.Declaration)
+        → result.now ≡ resolve.type_name [] ds (datatype_view datatype.now) }
+{
     match datatype {
         Datatype::String(_) => "string",
         Datatype::Token(_) => "token",
@@ -20,7 +35,11 @@ fn typed_tag<'t>(
     taken: UriSource,
     element: &'t str,
     datatype: &'t Datatype<'_>,
-) -> Tag<'t> {
+) -> Tag<'t>
+    ensures element { result.element.now ≡ element.now }
+    ensures attributes { tag_attributes result ≡ type_attributes (given namespaces.now)
+        (uri_of namespaces.now taken) (datatype_view datatype.now) }
+{
     Tag {
         element,
         first: Some(Attribute::new("type", type_name(datatype))),
@@ -28,60 +47,93 @@ fn typed_tag<'t>(
     }
 }
 
-/// Writes the line of a value; one without a datatype has no attribute.
-pub(crate) fn write_value<'v>(
-    writer: &mut Writer,
-    namespaces: &'v Namespaces<'_, '_>,
-    place: Place,
-    value: &'v Value<'_>,
-) {
-    let tag = match &value.datatype {
+/// The tag of a value; one without a datatype has no attribute.
+fn value_tag<'t>(
+    namespaces: &'t Namespaces<'_, '_>,
+    taken: UriSource,
+    datatype: &'t Option<Datatype<'_>>,
+) -> Tag<'t>
+    ensures element { result.element.now ≡ codes "value" }
+    ensures attributes { tag_attributes result ≡ value_attributes (given namespaces.now)
+        (uri_of namespaces.now taken) (type_view datatype.now) }
+{
+    match datatype {
         None => Tag::bare("value"),
-        Some(datatype) => typed_tag(namespaces, place.library, "value", datatype),
-    };
+        Some(datatype) => typed_tag(namespaces, taken, "value", datatype),
+    }
+}
+
+/// Writes the line of a value.
+pub(crate) fn write_value(
+    writer: &mut Writer,
+    namespaces: &Namespaces<'_, '_>,
+    place: Place,
+    value: &Value<'_>,
+)
+    ensures { Writes (item_text place.level (translation.element (codes "value")
+        (value_attributes (given namespaces.now) (uri_of namespaces.now place.library)
+        (type_view value.now.datatype)) (text_items (cow_str_bytes value.now.text))))
+        writer.old writer.new }
+{
+    let tag = value_tag(&*namespaces, place.library, &value.datatype);
     writer.line(place.level, &tag, "", value.text.as_str());
 }
 
 /// Writes data without an except.
-pub(crate) fn write_data<'v>(
+pub(crate) fn write_data(
     writer: &mut Writer,
-    namespaces: &'v Namespaces<'_, '_>,
+    namespaces: &Namespaces<'_, '_>,
     place: Place,
-    data: &'v Data<'_>,
-) {
-    let tag = typed_tag(namespaces, place.library, "data", &data.datatype);
+    data: &Data<'_>,
+)
+    ensures { Writes (item_text place.level (translation.element (codes "data")
+        (type_attributes (given namespaces.now) (uri_of namespaces.now place.library)
+        (datatype_view «data».now.datatype)) (params_xml (params_view «data».now.params.items))))
+        writer.old writer.new }
+{
+    let tag = typed_tag(&*namespaces, place.library, "data", &data.datatype);
     if data.params.is_empty() {
         writer.empty(place.level, &tag);
-        return;
+    } else {
+        writer.open(place.level, &tag);
+        write_params(writer, place.inside().level, &data.params);
+        writer.close(place.level, "data");
     }
-    writer.open(place.level, &tag);
-    write_params(writer, place.inside().level, &data.params);
-    writer.close(place.level, "data");
 }
 
-/// Writes the start tag of data and its parameters, and answers the place in it.
-pub(crate) fn open_data<'v>(
+/// Writes the start tag of data and its parameters.
+pub(crate) fn open_data(
     writer: &mut Writer,
-    namespaces: &'v Namespaces<'_, '_>,
+    namespaces: &Namespaces<'_, '_>,
     place: Place,
-    data: &'v Data<'_>,
-) -> Place {
-    let tag = typed_tag(namespaces, place.library, "data", &data.datatype);
+    data: &Data<'_>,
+)
+    ensures { Writes (tag_front place.level (codes "data")
+        (type_attributes (given namespaces.now) (uri_of namespaces.now place.library)
+        (datatype_view «data».now.datatype)) ++ (codes ">\n"
+        ++ items_text (layout.deeper place.level)
+        (params_xml (params_view «data».now.params.items)))) writer.old writer.new }
+{
+    let tag = typed_tag(&*namespaces, place.library, "data", &data.datatype);
     writer.open(place.level, &tag);
-    let inside = place.with_library(namespaces.library(&data.datatype));
-    write_params(writer, inside.level, &data.params);
-    inside
+    write_params(writer, place.inside().level, &data.params);
 }
 
 /// Writes the lines of parameters.
-fn write_params(writer: &mut Writer, level: usize, params: &[Param<'_>]) {
+fn write_params(writer: &mut Writer, level: usize, params: &[Param<'_>])
+    ensures { Writes (items_text level (params_xml (params_view params.now)))
+        writer.old writer.new }
+{
     for param in params {
         write_param(writer, level, param);
     }
 }
 
 /// Writes the line of a parameter.
-fn write_param<'v>(writer: &mut Writer, level: usize, param: &'v Param<'_>) {
+fn write_param(writer: &mut Writer, level: usize, param: &Param<'_>)
+    ensures { Writes (item_text level (param_element (param_view param.now)))
+        writer.old writer.new }
+{
     let tag = Tag::with("param", Attribute::new("name", param.name));
     writer.line(level, &tag, "", param.text.as_str());
 }

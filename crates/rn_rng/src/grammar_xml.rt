@@ -1,12 +1,20 @@
 // The XML text of a module without includes (RELAX NG 2001, 3; compact syntax, appendix A).
+ghost use Rattle.std.specs.Prelude.{◌≡◌, [], IfErr, IfOk, length, nat_eq, string_bytes};
+ghost use Rattle.rn_syntax.specs.Tree as tree;
+ghost use Rattle.rn_syntax.specs.View.{item_view, items_view, module_view, pattern_view};
+ghost use Rattle.rn_rng.specs.Layout.{items_text};
+ghost use Rattle.rn_rng.specs.Translation.{combine_attributes, item_xml, items_xml};
+ghost use Rattle.rn_rng.specs.Written.{IsUnwritten, IsWritten};
+ghost use Rattle.rn_rng.specs.inside.Views.{given, optional_view};
+ghost use Rattle.rn_rng.specs.inside.Writes.{Writes};
 
 use crate::lines::{Writer, deeper};
-use crate::namespaces::{Namespaces, Place};
-use crate::pattern_xml::{write_members, write_pattern};
+use crate::namespaces::Namespaces;
+use crate::pattern_xml::write_pattern;
+use crate::place::Place;
 use crate::tag::{Attribute, Tag};
 use crate::xml_fault::XmlFault;
-use rn_syntax::{Item, Method, Module, Pat, SyntaxFault, includes, parse};
-use rn_text::{TextFault, Token, tokens};
+use rn_syntax::{Item, Method, Module, Operator, Pat, includes};
 use std::alloc::{AllocError, Global};
 
 /// What stands before the first item.
@@ -16,49 +24,12 @@ const HEAD: &str =
 /// What stands behind the last item.
 const END: &str = "</grammar>\n";
 
-/// The XML text of a module's text, as of a printed schema. `NoSchema` where the text is no module of the compact
-/// syntax, or its module includes another.
-pub fn schema_xml(alloc: Global, text: &str) -> Result<String, XmlFault> {
-    let tokens = text_tokens(alloc, text)?;
-    let module = text_module(alloc, &tokens)?;
-    module_xml(alloc, &module)
-}
-
-/// The tokens of a text.
-fn text_tokens<'a>(alloc: Global, text: &'a str) -> Result<Vec<Token<'a>>, XmlFault> {
-    match tokens(alloc, text.as_bytes()) {
-        Ok(tokens) => Ok(tokens),
-        Err(fault) => Err(text_fault(&fault)),
-    }
-}
-
-/// What a text is refused for that has this fault.
-fn text_fault(fault: &TextFault) -> XmlFault {
-    match fault {
-        TextFault::Memory => XmlFault::Memory,
-        TextFault::Encoding { .. } | TextFault::Lexical { .. } => XmlFault::NoSchema,
-    }
-}
-
-/// The module of these tokens.
-fn text_module<'a>(alloc: Global, tokens: &[Token<'a>]) -> Result<Module<'a>, XmlFault> {
-    match parse(alloc, tokens) {
-        Ok(module) => Ok(module),
-        Err(fault) => Err(syntax_fault(&fault)),
-    }
-}
-
-/// What a text is refused for whose tokens have this fault.
-fn syntax_fault(fault: &SyntaxFault) -> XmlFault {
-    match fault {
-        SyntaxFault::Memory => XmlFault::Memory,
-        _ => XmlFault::NoSchema,
-    }
-}
-
 /// The XML text of a module that inherits no namespace. `NoSchema` where the module includes another; `TooLarge` where
 /// the text would have more than [`crate::MAX_XML`] bytes.
-pub fn module_xml(alloc: Global, module: &Module<'_>) -> Result<String, XmlFault> {
+pub fn module_xml(alloc: Global, module: &Module<'_>) -> Result<String, XmlFault>
+    ensures ok { IfOk result (λ text. IsWritten (module_view «module».now) (string_bytes text)) }
+    ensures err { IfErr result (IsUnwritten (module_view «module».now)) }
+{
     if !is_flat(alloc, module)? {
         return Err(XmlFault::NoSchema);
     }
@@ -71,12 +42,17 @@ pub fn module_xml(alloc: Global, module: &Module<'_>) -> Result<String, XmlFault
 }
 
 /// Whether a module includes no other.
-fn is_flat(alloc: Global, module: &Module<'_>) -> Result<bool, AllocError> {
+fn is_flat(alloc: Global, module: &Module<'_>) -> Result<bool, AllocError>
+    ensures { IfOk result (λ flat. flat
+        ≡ nat_eq (length (tree.includes (module_view «module».now).items)) 0) }
+{
     Ok(includes(alloc, module)?.is_empty())
 }
 
 /// How a definition is combined with others of its name, as an attribute.
-fn combine(method: Method) -> Option<Attribute<'static>> {
+fn combine(method: Method) -> Option<Attribute<'static>>
+    ensures { optional_view result ≡ combine_attributes method }
+{
     match method {
         Method::Plain => None,
         Method::Choice => Some(Attribute::new("combine", "choice")),
@@ -91,15 +67,21 @@ fn write_items(
     namespaces: &Namespaces<'_, '_>,
     level: usize,
     items: &[Item<'_>],
-) {
+)
+    ensures { tree.includes (items_view items.now) ≡ [] → Writes (items_text level
+        (items_xml (given namespaces.now) (items_view items.now))) writer.old writer.new }
+{
     for item in items {
         write_item(writer, namespaces, level, item);
     }
 }
 
-/// Writes an item; nothing for an include, which no flat module has.
+/// Writes an item; nothing for an include, which no module has that is written.
 #[cycle(items)]
-fn write_item(writer: &mut Writer, namespaces: &Namespaces<'_, '_>, level: usize, item: &Item<'_>) {
+fn write_item(writer: &mut Writer, namespaces: &Namespaces<'_, '_>, level: usize, item: &Item<'_>)
+    ensures { tree.item_includes (item_view item.now) ≡ [] → Writes (items_text level
+        (item_xml (given namespaces.now) (item_view item.now))) writer.old writer.new }
+{
     match item {
         Item::Define { name, method, body } => {
             write_definition(writer, namespaces, level, name, *method, body);
@@ -112,22 +94,21 @@ fn write_item(writer: &mut Writer, namespaces: &Namespaces<'_, '_>, level: usize
 
 /// Writes a div.
 #[cycle(items)]
-fn write_div(
-    writer: &mut Writer,
-    namespaces: &Namespaces<'_, '_>,
-    level: usize,
-    items: &[Item<'_>],
-) {
+fn write_div(writer: &mut Writer, namespaces: &Namespaces<'_, '_>, level: usize, items: &[Item<'_>])
+    ensures { tree.includes (items_view items.now) ≡ [] → Writes (items_text level
+        (item_xml (given namespaces.now) (tree.div (items_view items.now))))
+        writer.old writer.new }
+{
     if items.is_empty() {
         writer.empty_bare(level, "div");
-        return;
+    } else {
+        writer.open_bare(level, "div");
+        write_items(writer, namespaces, deeper(level), items);
+        writer.close(level, "div");
     }
-    writer.open_bare(level, "div");
-    write_items(writer, namespaces, deeper(level), items);
-    writer.close(level, "div");
 }
 
-/// Writes a definition: the members of a group, or the one pattern.
+/// Writes a definition, whose pattern is in a group anyhow. Does nothing once the writer has stopped.
 fn write_definition(
     writer: &mut Writer,
     namespaces: &Namespaces<'_, '_>,
@@ -135,7 +116,10 @@ fn write_definition(
     name: &str,
     method: Method,
     body: &Pat<'_>,
-) {
+)
+    ensures { Writes (items_text level (item_xml (given namespaces.now)
+        (tree.define name.now method (pattern_view body.now)))) writer.old writer.new }
+{
     if writer.stopped.is_some() {
         return;
     }
@@ -145,7 +129,8 @@ fn write_definition(
         second: combine(method),
     };
     writer.open(level, &tag);
-    write_members(writer, namespaces, Place::at(deeper(level)), body);
+    let inside = Place::at(deeper(level)).wrapped(Operator::Comma);
+    write_pattern(writer, namespaces, inside, body);
     writer.close(level, "define");
 }
 
@@ -156,7 +141,10 @@ fn write_start(
     level: usize,
     method: Method,
     body: &Pat<'_>,
-) {
+)
+    ensures { Writes (items_text level (item_xml (given namespaces.now)
+        (tree.start method (pattern_view body.now)))) writer.old writer.new }
+{
     let tag = Tag {
         element: "start",
         first: combine(method),

@@ -13,9 +13,12 @@ mod lines;
 pub mod meaning_laws;
 mod namespaces;
 mod pattern_xml;
+mod place;
+pub mod schema_text;
 mod tag;
 pub mod xml_fault;
 
-pub use grammar_xml::{module_xml, schema_xml};
+pub use grammar_xml::module_xml;
 pub use lines::MAX_XML;
+pub use schema_text::schema_xml;
 pub use xml_fault::XmlFault;

@@ -1,6 +1,12 @@
-// The namespaces and datatype libraries of a module, and where a namespace is inherited (RELAX NG 2001, 4.3 and 4.9).
+// The namespaces and datatype libraries of a module, and where they are inherited (RELAX NG 2001, 4.3 and 4.9).
+ghost use Rattle.std.specs.Prelude.{◌≡◌, [], bytes_eq, map, unwrap_or, IfOk};
+ghost use Rattle.rn_syntax.specs.BindingDeclarations.{bound};
+ghost use Rattle.rn_syntax.specs.Places as places;
+ghost use Rattle.rn_syntax.specs.View.{datatype_view, declaration_view, uri_view};
+ghost use Rattle.rn_assemble.specs.Resolve.{default_of, namespace_of, type_library, uri_text};
+ghost use Rattle.rn_rng.specs.Translation as translation;
+ghost use Rattle.rn_rng.specs.Translation.{library_attributes, ns_attributes, xml_prefix};
 
-use crate::lines::deeper;
 use crate::tag::Attribute;
 use rn_syntax::{Bindings, Datatype, Declaration, Uri, XML_URI, XSD_URI};
 use std::alloc::{AllocError, Global};
@@ -23,14 +29,19 @@ pub(crate) enum UriSource {
 pub(crate) struct Namespaces<'m, 'a> {
     pub declarations: &'m [Declaration<'a>],
     pub bindings: Bindings<'m, 'a>,
+    ghost same: { bound bindings ≡ map declaration_view declarations.now },
 }
 
 impl<'m, 'a> Namespaces<'m, 'a> {
-    /// What these declarations bind.
+    ghost use Rattle.rn_rng.specs.inside.Views.{given, optional_view, uri_of};
+
+    /// What these declarations bind. It fails only where memory is refused.
     pub fn new(
         alloc: Global,
         declarations: &'m [Declaration<'a>],
-    ) -> Result<Namespaces<'m, 'a>, AllocError> {
+    ) -> Result<Namespaces<'m, 'a>, AllocError>
+        ensures { IfOk result (λ n. given n ≡ map declaration_view declarations.now) }
+    {
         Ok(Namespaces {
             declarations,
             bindings: Bindings::new(alloc, declarations)?,
@@ -38,7 +49,9 @@ impl<'m, 'a> Namespaces<'m, 'a> {
     }
 
     /// The URI of the declaration of a number; none for an inherited namespace.
-    fn declared(&self, number: usize) -> &str {
+    fn declared(&self, number: usize) -> &str
+        ensures { result.now ≡ uri_text [] (places.uri_at (given self.now) number) }
+    {
         let declarations = self.declarations;
         if number < declarations.len() {
             declaration_uri(&declarations[number])
@@ -48,7 +61,9 @@ impl<'m, 'a> Namespaces<'m, 'a> {
     }
 
     /// The text of a URI.
-    pub fn uri(&self, source: UriSource) -> &str {
+    pub fn uri(&self, source: UriSource) -> &str
+        ensures { result.now ≡ uri_of self.now source }
+    {
         match source {
             UriSource::Empty => "",
             UriSource::Xml => XML_URI,
@@ -58,7 +73,9 @@ impl<'m, 'a> Namespaces<'m, 'a> {
     }
 
     /// The namespace of elements without prefix.
-    pub fn default_namespace(&self) -> UriSource {
+    pub fn default_namespace(&self) -> UriSource
+        ensures { uri_of self.now result ≡ default_of [] (given self.now) }
+    {
         match self.bindings.default() {
             Some(number) => UriSource::Declared(number),
             None => UriSource::Empty,
@@ -66,7 +83,9 @@ impl<'m, 'a> Namespaces<'m, 'a> {
     }
 
     /// The namespace of a prefix; none for one that is not bound.
-    pub fn namespace(&self, prefix: &str) -> UriSource {
+    pub fn namespace(&self, prefix: &str) -> UriSource
+        ensures { uri_of self.now result ≡ namespace_of [] (given self.now) prefix.now }
+    {
         if prefix == "xml" {
             return UriSource::Xml;
         }
@@ -77,7 +96,10 @@ impl<'m, 'a> Namespaces<'m, 'a> {
     }
 
     /// The datatype library of a prefix; the empty one for a prefix that is not bound.
-    fn prefixed_library(&self, prefix: &str) -> UriSource {
+    fn prefixed_library(&self, prefix: &str) -> UriSource
+        ensures { uri_of self.now result
+            ≡ unwrap_or (places.library_of (given self.now) prefix.now) [] }
+    {
         if prefix == "xsd" {
             return UriSource::Xsd;
         }
@@ -88,7 +110,10 @@ impl<'m, 'a> Namespaces<'m, 'a> {
     }
 
     /// The library of a datatype.
-    pub fn library(&self, datatype: &Datatype<'_>) -> UriSource {
+    pub fn library(&self, datatype: &Datatype<'_>) -> UriSource
+        ensures { uri_of self.now result
+            ≡ type_library [] (given self.now) (datatype_view datatype.now) }
+    {
         match datatype {
             Datatype::String(_) | Datatype::Token(_) => UriSource::Empty,
             Datatype::Named(prefix, _) => self.prefixed_library(prefix.name),
@@ -96,27 +121,39 @@ impl<'m, 'a> Namespaces<'m, 'a> {
     }
 
     /// Whether two URIs are the same.
-    pub fn are_same(&self, one: UriSource, other: UriSource) -> bool {
+    pub fn are_same(&self, one: UriSource, other: UriSource) -> bool
+        ensures { result ≡ bytes_eq (uri_of self.now one) (uri_of self.now other) }
+    {
         one == other || self.uri(one) == self.uri(other)
     }
 
     /// Whether a namespace is that of prefix `xml`.
-    fn is_xml(&self, namespace: UriSource) -> bool {
+    fn is_xml(&self, namespace: UriSource) -> bool
+        ensures { result ≡ bytes_eq (uri_of self.now namespace) places.xml_uri }
+    {
         self.are_same(namespace, UriSource::Xml)
     }
 
     /// Whether a name needs an `ns` where it would take this namespace without one.
-    pub fn needs_ns(&self, taken: UriSource, namespace: UriSource) -> bool {
+    pub fn needs_ns(&self, taken: UriSource, namespace: UriSource) -> bool
+        ensures { result ≡ translation.needs_ns (uri_of self.now taken)
+            (uri_of self.now namespace) }
+    {
         !self.are_same(namespace, taken) && !self.is_xml(namespace)
     }
 
     /// The prefix before a name of the namespace, with its colon.
-    pub fn prefix_of(&self, namespace: UriSource) -> &'static str {
+    pub fn prefix_of(&self, namespace: UriSource) -> &'static str
+        ensures { result.now ≡ xml_prefix (uri_of self.now namespace) }
+    {
         if self.is_xml(namespace) { "xml:" } else { "" }
     }
 
     /// The attribute with the namespace of a name, where it would take this one without it.
-    pub fn ns_attribute(&self, taken: UriSource, namespace: UriSource) -> Option<Attribute<'_>> {
+    pub fn ns_attribute(&self, taken: UriSource, namespace: UriSource) -> Option<Attribute<'_>>
+        ensures { optional_view result ≡ ns_attributes (uri_of self.now taken)
+            (uri_of self.now namespace) }
+    {
         if self.needs_ns(taken, namespace) {
             Some(Attribute::new("ns", self.uri(namespace)))
         } else {
@@ -125,7 +162,10 @@ impl<'m, 'a> Namespaces<'m, 'a> {
     }
 
     /// The attribute with the library of a datatype, where it would inherit this one without it.
-    pub fn library_attribute(&self, taken: UriSource, library: UriSource) -> Option<Attribute<'_>> {
+    pub fn library_attribute(&self, taken: UriSource, library: UriSource) -> Option<Attribute<'_>>
+        ensures { optional_view result ≡ library_attributes (uri_of self.now taken)
+            (uri_of self.now library) }
+    {
         if self.are_same(library, taken) {
             None
         } else {
@@ -135,65 +175,23 @@ impl<'m, 'a> Namespaces<'m, 'a> {
 }
 
 /// The URI of a declaration.
-fn declaration_uri<'u>(declaration: &'u Declaration<'_>) -> &'u str {
+fn declaration_uri<'u>(declaration: &'u Declaration<'_>) -> &'u str
+    ensures { result.now ≡ uri_text [] (places.uri_of (declaration_view declaration.now)) }
+{
     match declaration {
-        Declaration::Namespace(_, uri) => uri_text(uri),
-        Declaration::Default(_, _, uri) => uri_text(uri),
+        Declaration::Namespace(_, uri) => text_of_uri(uri),
+        Declaration::Default(_, _, uri) => text_of_uri(uri),
         Declaration::Datatypes(_, uri) => uri.as_str(),
     }
 }
 
 /// The text of a URI; none for the inherited one.
-fn uri_text<'u>(uri: &'u Uri<'_>) -> &'u str {
+fn text_of_uri<'u>(uri: &'u Uri<'_>) -> &'u str
+    ensures { result.now ≡ uri_text [] (uri_view uri.now) }
+{
     match uri {
         Uri::Literal(text) => text.as_str(),
         Uri::Inherited => "",
-    }
-}
-
-/// Where an element stands: how deep, and what it inherits there (RELAX NG 2001, 4.3 and 4.9).
-#[derive(Clone, Copy)]
-pub(crate) struct Place {
-    pub level: usize,
-    pub namespace: UriSource,
-    pub library: UriSource,
-}
-
-impl Place {
-    /// A place of this level in the root.
-    pub fn at(level: usize) -> Place {
-        Place {
-            level,
-            namespace: UriSource::Empty,
-            library: UriSource::Xsd,
-        }
-    }
-
-    /// The place in an element that gives neither.
-    pub fn inside(self) -> Place {
-        Place {
-            level: deeper(self.level),
-            namespace: self.namespace,
-            library: self.library,
-        }
-    }
-
-    /// The place in an element that gives this namespace.
-    pub fn under(self, namespace: UriSource) -> Place {
-        Place {
-            level: deeper(self.level),
-            namespace,
-            library: self.library,
-        }
-    }
-
-    /// The place in an element that gives this library.
-    pub fn with_library(self, library: UriSource) -> Place {
-        Place {
-            level: deeper(self.level),
-            namespace: self.namespace,
-            library,
-        }
     }
 }
 

@@ -1,14 +1,29 @@
 // Patterns as XML elements (RELAX NG 2001, 3, pattern).
+ghost use Rattle.std.specs.Prelude.{◌≡◌, ◌++◌, [], ◌∷◌, Some, codes};
+ghost use Rattle.std.specs.Prelude as prelude;
+ghost use Rattle.rn_pattern.specs.Document as document;
+ghost use Rattle.rn_syntax.specs.Tree as tree;
+ghost use Rattle.rn_syntax.specs.View.{class_view, pattern_view, patterns_view, datatype_view, params_view};
+ghost use Rattle.rn_syntax.specs.declared.token.Operator.TheVariants.{Comma};
+ghost use Rattle.rn_rng.specs.Layout as layout;
+ghost use Rattle.rn_rng.specs.Layout.{item_text, items_text, tag_front};
+ghost use Rattle.rn_rng.specs.Translation as translation;
+ghost use Rattle.rn_rng.specs.Translation.{attribute, class_attributes, class_inside, class_items, except_element, grouped, name_attributes, ns_inside, operator_local, pattern_xml, repetition_local};
+ghost use Rattle.rn_rng.specs.inside.Views.{given, pattern_at, patterns_at, tag_attributes, uri_of};
+ghost use Rattle.rn_rng.specs.inside.Writes.{Writes};
 
 use crate::class_xml::{one_name, write_class};
 use crate::data_xml::{open_data, write_data, write_value};
 use crate::lines::Writer;
-use crate::namespaces::{Namespaces, Place, QualifiedName, UriSource};
+use crate::namespaces::{Namespaces, QualifiedName, UriSource};
+use crate::place::Place;
 use crate::tag::{Attribute, Tag};
-use rn_syntax::{Data, Named, Operator, Pat, Postfix};
+use rn_syntax::{Data, Named, Nc, Operator, Pat, Postfix};
 
 /// The element that a postfix is.
-fn repetition(postfix: Postfix) -> &'static str {
+fn repetition(postfix: Postfix) -> &'static str
+    ensures { result.now ≡ repetition_local postfix }
+{
     match postfix {
         Postfix::Question => "optional",
         Postfix::Star => "zeroOrMore",
@@ -17,12 +32,21 @@ fn repetition(postfix: Postfix) -> &'static str {
 }
 
 /// The element that an operator is.
-fn connector(operator: Operator) -> &'static str {
+fn connector(operator: Operator) -> &'static str
+    ensures { result.now ≡ operator_local operator }
+{
     match operator {
         Operator::Comma => "group",
         Operator::Ampersand => "interleave",
         Operator::Bar => "choice",
     }
+}
+
+/// Whether the pattern is any text.
+fn is_text(pattern: &Pat<'_>) -> bool
+    ensures { result ≡ translation.is_text (pattern_view pattern.now) }
+{
+    matches!(pattern, Pat::Text)
 }
 
 /// The tag of an element with a name as its attribute, where the name would take this namespace without `ns`.
@@ -31,7 +55,11 @@ fn named_tag<'t>(
     element: &'t str,
     taken: UriSource,
     name: QualifiedName<'t>,
-) -> Tag<'t> {
+) -> Tag<'t>
+    ensures element { result.element.now ≡ element.now }
+    ensures attributes { tag_attributes result ≡ name_attributes (uri_of namespaces.now taken)
+        (uri_of namespaces.now name.entry.namespace) name.entry.local.now }
+{
     Tag {
         element,
         first: Some(Attribute {
@@ -43,47 +71,120 @@ fn named_tag<'t>(
     }
 }
 
-/// Writes the start tag of an element with a name as its attribute, and answers the place in it.
-fn open_named<'t>(
-    writer: &mut Writer,
-    namespaces: &'t Namespaces<'_, '_>,
-    place: Place,
-    element: &'t str,
+/// The nearest `ns` in an element with a name as its attribute, which would take this namespace without its own `ns`.
+fn namespace_inside(
+    namespaces: &Namespaces<'_, '_>,
+    around: UriSource,
     taken: UriSource,
-    name: QualifiedName<'t>,
-) -> Place {
-    writer.open(place.level, &named_tag(namespaces, element, taken, name));
-    if namespaces.needs_ns(taken, name.namespace) {
-        place.under(name.namespace)
+    namespace: UriSource,
+) -> UriSource
+    ensures { uri_of namespaces.now result ≡ ns_inside (uri_of namespaces.now around)
+        (uri_of namespaces.now taken) (uri_of namespaces.now namespace) }
+{
+    if namespaces.needs_ns(taken, namespace) {
+        namespace
     } else {
-        place.inside()
+        around
     }
 }
 
-/// Writes an attribute of a name and of any text.
-fn write_text_attribute<'t>(
+/// Writes the start tag of an element, with one name as its attribute and with any other class behind it, and answers
+/// the place behind that. A name without prefix is in the namespace `own`; without `ns` a name would be in `taken`.
+fn open_head(
     writer: &mut Writer,
-    namespaces: &'t Namespaces<'_, '_>,
-    level: usize,
-    name: QualifiedName<'t>,
-) {
-    let tag = named_tag(namespaces, "attribute", UriSource::Empty, name);
-    writer.empty(level, &tag);
+    namespaces: &Namespaces<'_, '_>,
+    place: Place,
+    element: &str,
+    taken: UriSource,
+    own: UriSource,
+    class: &Nc<'_>,
+) -> Place
+    ensures written { Writes (tag_front place.level element.now
+        (class_attributes (given namespaces.now) (uri_of namespaces.now taken)
+        (uri_of namespaces.now own) (class_view class.now))
+        ++ (codes ">\n" ++ items_text (layout.deeper place.level)
+        (class_items (given namespaces.now) (uri_of namespaces.now place.namespace)
+        (uri_of namespaces.now own) (class_view class.now)))) writer.old writer.new }
+    ensures namespace { uri_of namespaces.now result.namespace ≡ class_inside (given namespaces.now)
+        (uri_of namespaces.now place.namespace) (uri_of namespaces.now taken)
+        (uri_of namespaces.now own) (class_view class.now) }
+    ensures level { result.level ≡ layout.deeper place.level }
+    ensures alone { result.wrapper ≡ prelude.None }
+    ensures library { result.library ≡ place.library }
+{
+    match one_name(namespaces, own, class) {
+        Some(name) => {
+            writer.open(
+                place.level,
+                &named_tag(&*namespaces, &*element, taken, name),
+            );
+            let namespace = namespace_inside(namespaces, place.namespace, taken, name.namespace);
+            place.inside().under(namespace)
+        }
+        None => {
+            writer.open_bare(place.level, element);
+            write_class(writer, namespaces, place.inside(), own, class);
+            place.inside()
+        }
+    }
+}
+
+/// Writes an attribute of any text.
+fn write_text_attribute(
+    writer: &mut Writer,
+    namespaces: &Namespaces<'_, '_>,
+    place: Place,
+    class: &Nc<'_>,
+)
+    ensures { Writes (item_text place.level (translation.element (codes "attribute")
+        (class_attributes (given namespaces.now) [] [] (class_view class.now))
+        (class_items (given namespaces.now) (uri_of namespaces.now place.namespace) []
+        (class_view class.now)))) writer.old writer.new }
+{
+    let own = UriSource::Empty;
+    match one_name(namespaces, own, class) {
+        Some(name) => {
+            writer.empty(
+                place.level,
+                &named_tag(&*namespaces, "attribute", own, name),
+            );
+        }
+        None => {
+            writer.open_bare(place.level, "attribute");
+            write_class(writer, namespaces, place.inside(), own, class);
+            writer.close(place.level, "attribute");
+        }
+    }
 }
 
 /// Writes a reference.
-fn write_ref(writer: &mut Writer, level: usize, name: &str) {
+fn write_ref(writer: &mut Writer, level: usize, name: &str)
+    ensures { Writes (item_text level (translation.element (codes "ref")
+        (attribute (codes "name") name.now ∷ []) document.no_items)) writer.old writer.new }
+{
     writer.empty(level, &Tag::with("ref", Attribute::new("name", name)));
 }
 
-/// Writes a pattern.
+/// Writes an element without attributes and content.
+fn write_empty(writer: &mut Writer, level: usize, element: &str)
+    requires { layout.holds_text element.now ≡ prelude.false }
+    ensures { Writes (item_text level (translation.element element.now [] document.no_items))
+        writer.old writer.new }
+{
+    writer.empty_bare(level, element);
+}
+
+/// Writes a pattern. Does nothing once the writer has stopped.
 #[cycle(pattern)]
 pub(crate) fn write_pattern(
     writer: &mut Writer,
     namespaces: &Namespaces<'_, '_>,
     place: Place,
     pattern: &Pat<'_>,
-) {
+)
+    ensures { Writes (pattern_at namespaces.now place (pattern_view pattern.now))
+        writer.old writer.new }
+{
     if writer.stopped.is_some() {
         return;
     }
@@ -92,110 +193,83 @@ pub(crate) fn write_pattern(
         Pat::Attribute(named) => write_attribute(writer, namespaces, place, named),
         Pat::List(content) => write_around(writer, namespaces, place, "list", content),
         Pat::Mixed(content) => write_around(writer, namespaces, place, "mixed", content),
-        Pat::Empty => writer.empty_bare(place.level, "empty"),
-        Pat::NotAllowed => writer.empty_bare(place.level, "notAllowed"),
-        Pat::Text => writer.empty_bare(place.level, "text"),
+        Pat::Empty => write_empty(writer, place.level, "empty"),
+        Pat::NotAllowed => write_empty(writer, place.level, "notAllowed"),
+        Pat::Text => write_empty(writer, place.level, "text"),
         Pat::Ref(name) => write_ref(writer, place.level, name),
-        Pat::Value(value) => write_value(writer, &*namespaces, place, value),
-        Pat::Datum(data) => write_data(writer, &*namespaces, place, data),
+        Pat::Value(value) => write_value(writer, namespaces, place, value),
+        Pat::Datum(data) => write_data(writer, namespaces, place, data),
         Pat::DatumBut(data, _, except) => write_data_but(writer, namespaces, place, data, except),
         Pat::Repeated(postfix, content) => {
             write_around(writer, namespaces, place, repetition(*postfix), content);
         }
         Pat::Chain(operator, members) => {
-            write_chain(writer, namespaces, place, connector(*operator), members);
+            write_chain(writer, namespaces, place, *operator, members);
         }
     }
 }
 
-/// Writes an element; a name without prefix is in the default namespace.
+/// Writes an element, whose content is in a group anyhow; a name without prefix is in the default namespace.
 #[cycle(pattern)]
 fn write_element(
     writer: &mut Writer,
     namespaces: &Namespaces<'_, '_>,
     place: Place,
     named: &Named<'_>,
-) {
+)
+    ensures { Writes (item_text place.level (pattern_xml (given namespaces.now)
+        (uri_of namespaces.now place.namespace) (uri_of namespaces.now place.library)
+        (tree.element (class_view named.now.class) (pattern_view named.now.content))))
+        writer.old writer.new }
+{
     let own = namespaces.default_namespace();
-    match one_name(namespaces, own, &named.class) {
-        Some(name) => {
-            let inside = open_named(
-                writer,
-                &*namespaces,
-                place,
-                "element",
-                place.namespace,
-                name,
-            );
-            write_members(writer, namespaces, inside, &named.content);
-            writer.close(place.level, "element");
-        }
-        None => {
-            writer.open_bare(place.level, "element");
-            let inside = place.inside();
-            write_class(writer, namespaces, inside, own, &named.class);
-            write_members(writer, namespaces, inside, &named.content);
-            writer.close(place.level, "element");
-        }
-    }
+    let taken = place.namespace;
+    let inside = open_head(
+        writer,
+        namespaces,
+        place,
+        "element",
+        taken,
+        own,
+        &named.class,
+    );
+    let inside = inside.wrapped(Operator::Comma);
+    write_pattern(writer, namespaces, inside, &named.content);
+    writer.close(place.level, "element");
 }
 
-/// Writes an attribute; a name without prefix is in no namespace.
+/// Writes an attribute; a name without prefix is in no namespace, and any text is left out (RELAX NG 2001, 4.12).
 #[cycle(pattern)]
 fn write_attribute(
     writer: &mut Writer,
     namespaces: &Namespaces<'_, '_>,
     place: Place,
     named: &Named<'_>,
-) {
-    let own = UriSource::Empty;
-    match one_name(namespaces, own, &named.class) {
-        Some(name) => write_named_attribute(writer, namespaces, place, name, &named.content),
-        None => {
-            writer.open_bare(place.level, "attribute");
-            let inside = place.inside();
-            write_class(writer, namespaces, inside, own, &named.class);
-            write_content(writer, namespaces, inside, &named.content);
-            writer.close(place.level, "attribute");
-        }
+)
+    ensures { Writes (item_text place.level (pattern_xml (given namespaces.now)
+        (uri_of namespaces.now place.namespace) (uri_of namespaces.now place.library)
+        (tree.attribute (class_view named.now.class) (pattern_view named.now.content))))
+        writer.old writer.new }
+{
+    if is_text(&named.content) {
+        write_text_attribute(writer, namespaces, place, &named.class);
+        return;
     }
+    let none = UriSource::Empty;
+    let inside = open_head(
+        writer,
+        namespaces,
+        place,
+        "attribute",
+        none,
+        none,
+        &named.class,
+    );
+    write_pattern(writer, namespaces, inside, &named.content);
+    writer.close(place.level, "attribute");
 }
 
-/// Writes an attribute with a name.
-#[cycle(pattern)]
-fn write_named_attribute(
-    writer: &mut Writer,
-    namespaces: &Namespaces<'_, '_>,
-    place: Place,
-    name: QualifiedName<'_>,
-    content: &Pat<'_>,
-) {
-    match content {
-        Pat::Text => write_text_attribute(writer, &*namespaces, place.level, name),
-        _ => {
-            let own = UriSource::Empty;
-            let inside = open_named(writer, &*namespaces, place, "attribute", own, name);
-            write_pattern(writer, namespaces, inside, content);
-            writer.close(place.level, "attribute");
-        }
-    }
-}
-
-/// Writes the content of an attribute behind its name class: nothing for any text (RELAX NG 2001, 4.12).
-#[cycle(pattern)]
-fn write_content(
-    writer: &mut Writer,
-    namespaces: &Namespaces<'_, '_>,
-    place: Place,
-    content: &Pat<'_>,
-) {
-    match content {
-        Pat::Text => {}
-        _ => write_pattern(writer, namespaces, place, content),
-    }
-}
-
-/// Writes an element of this name round the members of a group, or round the one pattern.
+/// Writes an element of this name round a pattern that is in a group anyhow.
 #[cycle(pattern)]
 fn write_around(
     writer: &mut Writer,
@@ -203,73 +277,41 @@ fn write_around(
     place: Place,
     element: &str,
     content: &Pat<'_>,
-) {
+)
+    requires { layout.holds_text element.now ≡ prelude.false }
+    ensures { Writes (item_text place.level (translation.element element.now []
+        (grouped (pattern_xml (given namespaces.now) (uri_of namespaces.now place.namespace)
+        (uri_of namespaces.now place.library) (pattern_view content.now)))))
+        writer.old writer.new }
+{
     writer.open_bare(place.level, element);
-    write_members(writer, namespaces, place.inside(), content);
+    let inside = place.inside().wrapped(Operator::Comma);
+    write_pattern(writer, namespaces, inside, content);
     writer.close(place.level, element);
 }
 
-/// Writes the members of a group, or the one pattern, where they stand in a group anyhow (RELAX NG 2001, 4.12).
-#[cycle(pattern)]
-pub(crate) fn write_members(
-    writer: &mut Writer,
-    namespaces: &Namespaces<'_, '_>,
-    place: Place,
-    content: &Pat<'_>,
-) {
-    match content {
-        Pat::Chain(operator, members) => {
-            write_unwrapped(
-                writer,
-                namespaces,
-                place,
-                Operator::Comma,
-                *operator,
-                members,
-            );
-        }
-        _ => write_pattern(writer, namespaces, place, content),
-    }
-}
-
-/// Writes a group, an interleave or a choice where it stands in one of the wrapper's kind anyhow: the members of one of
-/// this kind, if it has some, and any other as itself.
-#[cycle(pattern)]
-fn write_unwrapped(
-    writer: &mut Writer,
-    namespaces: &Namespaces<'_, '_>,
-    place: Place,
-    wrapper: Operator,
-    operator: Operator,
-    members: &[Pat<'_>],
-) {
-    if members.is_empty() {
-        writer.empty_bare(place.level, connector(operator));
-        return;
-    }
-    if operator == wrapper {
-        write_patterns(writer, namespaces, place, members);
-        return;
-    }
-    write_chain(writer, namespaces, place, connector(operator), members);
-}
-
-/// Writes a group, an interleave or a choice.
+/// Writes a group, an interleave or a choice: its members alone where they are in one anyhow.
 #[cycle(pattern)]
 fn write_chain(
     writer: &mut Writer,
     namespaces: &Namespaces<'_, '_>,
     place: Place,
-    element: &str,
+    operator: Operator,
     members: &[Pat<'_>],
-) {
+)
+    ensures { Writes (pattern_at namespaces.now place
+        (tree.chain operator (patterns_view members.now))) writer.old writer.new }
+{
+    let element = connector(operator);
     if members.is_empty() {
         writer.empty_bare(place.level, element);
-        return;
+    } else if place.is_in(operator) {
+        write_patterns(writer, namespaces, place.alone(), members);
+    } else {
+        writer.open_bare(place.level, element);
+        write_patterns(writer, namespaces, place.inside(), members);
+        writer.close(place.level, element);
     }
-    writer.open_bare(place.level, element);
-    write_patterns(writer, namespaces, place.inside(), members);
-    writer.close(place.level, element);
 }
 
 /// Writes patterns one after the other.
@@ -279,7 +321,9 @@ fn write_patterns(
     namespaces: &Namespaces<'_, '_>,
     place: Place,
     patterns: &[Pat<'_>],
-) {
+)
+    ensures { Writes (patterns_at namespaces.now place patterns.now) writer.old writer.new }
+{
     for pattern in patterns {
         write_pattern(writer, namespaces, place, pattern);
     }
@@ -293,26 +337,38 @@ fn write_data_but(
     place: Place,
     data: &Data<'_>,
     except: &Pat<'_>,
-) {
-    let inside = open_data(writer, &*namespaces, place, &*data);
-    writer.open_bare(inside.level, "except");
-    write_excepted(writer, namespaces, inside.inside(), except);
-    writer.close(inside.level, "except");
+)
+    ensures { (i : prelude.ℕ) → Writes (item_text place.level (pattern_xml (given namespaces.now)
+        (uri_of namespaces.now place.namespace) (uri_of namespaces.now place.library)
+        (tree.datum_but (datatype_view «data».now.datatype)
+        (params_view «data».now.params.items) i (pattern_view except.now))))
+        writer.old writer.new }
+{
+    open_data(writer, namespaces, place, data);
+    let library = namespaces.library(&data.datatype);
+    write_except(
+        writer,
+        namespaces,
+        place.inside().with_library(library),
+        except,
+    );
     writer.close(place.level, "data");
 }
 
-/// Writes the members of a choice, or the one pattern, where they stand in a choice anyhow (RELAX NG 2001, 4.12).
+/// Writes an except, whose children are in a choice anyhow.
 #[cycle(pattern)]
-fn write_excepted(
+fn write_except(
     writer: &mut Writer,
     namespaces: &Namespaces<'_, '_>,
     place: Place,
     except: &Pat<'_>,
-) {
-    match except {
-        Pat::Chain(operator, members) => {
-            write_unwrapped(writer, namespaces, place, Operator::Bar, *operator, members);
-        }
-        _ => write_pattern(writer, namespaces, place, except),
-    }
+)
+    ensures { Writes (item_text place.level (except_element (pattern_xml (given namespaces.now)
+        (uri_of namespaces.now place.namespace) (uri_of namespaces.now place.library)
+        (pattern_view except.now)))) writer.old writer.new }
+{
+    writer.open_bare(place.level, "except");
+    let inside = place.inside().wrapped(Operator::Bar);
+    write_pattern(writer, namespaces, inside, except);
+    writer.close(place.level, "except");
 }

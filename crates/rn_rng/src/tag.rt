@@ -1,4 +1,7 @@
 // The name and the attributes of an element.
+ghost use Rattle.std.specs.Prelude.{◌≡◌, ◌∷◌, []};
+ghost use Rattle.rn_rng.specs.Translation.{attribute};
+ghost use Rattle.rn_rng.specs.inside.Views.{attribute_view, tag_attributes};
 
 /// An attribute.
 #[derive(Clone, Copy)]
@@ -11,7 +14,9 @@ pub(crate) struct Attribute<'a> {
 
 impl<'a> Attribute<'a> {
     /// An attribute with a name and a value.
-    pub fn new(name: &'a str, value: &'a str) -> Attribute<'a> {
+    pub fn new(name: &'a str, value: &'a str) -> Attribute<'a>
+        ensures { attribute_view result ≡ attribute name.now value.now }
+    {
         Attribute {
             name,
             prefix: "",
@@ -30,7 +35,10 @@ pub(crate) struct Tag<'a> {
 
 impl<'a> Tag<'a> {
     /// An element without attributes.
-    pub fn bare(element: &'a str) -> Tag<'a> {
+    pub fn bare(element: &'a str) -> Tag<'a>
+        ensures element { result.element.now ≡ element.now }
+        ensures attributes { tag_attributes result ≡ [] }
+    {
         Tag {
             element,
             first: None,
@@ -39,7 +47,10 @@ impl<'a> Tag<'a> {
     }
 
     /// An element with one attribute.
-    pub fn with(element: &'a str, attribute: Attribute<'a>) -> Tag<'a> {
+    pub fn with(element: &'a str, attribute: Attribute<'a>) -> Tag<'a>
+        ensures element { result.element.now ≡ element.now }
+        ensures attributes { tag_attributes result ≡ attribute_view attribute.entry ∷ [] }
+    {
         Tag {
             element,
             first: Some(attribute),

@@ -1,0 +1,107 @@
+// Where an element stands: how deep, and what it inherits there (RELAX NG 2001, 4.3, 4.9 and 4.12).
+ghost use Rattle.std.specs.Prelude.{◌≡◌, ◌≢◌, false, Some, None, IsTrue};
+ghost use Rattle.rn_rng.specs.Layout as layout;
+ghost use Rattle.rn_rng.specs.declared.namespaces.UriSource.TheVariants.{Empty, Xsd};
+
+use crate::lines::deeper;
+use crate::namespaces::UriSource;
+use rn_syntax::Operator;
+
+/// Where an element stands.
+#[derive(Clone, Copy)]
+pub(crate) struct Place {
+    /// How many elements are open, as [`deeper`] counts them.
+    pub level: usize,
+    /// The connector in which the children of the element around are anyhow.
+    pub wrapper: Option<Operator>,
+    /// The nearest `ns` around, or the empty one where there is none.
+    pub namespace: UriSource,
+    /// The nearest `datatypeLibrary` around.
+    pub library: UriSource,
+}
+
+impl Place {
+    /// A place of this level in the root.
+    pub fn at(level: usize) -> Place
+        ensures { result ≡ record
+            { level = level; wrapper = None; namespace = Empty; library = Xsd } }
+    {
+        Place {
+            level,
+            wrapper: None,
+            namespace: UriSource::Empty,
+            library: UriSource::Xsd,
+        }
+    }
+
+    /// Whether children are in this connector anyhow.
+    pub fn is_in(self, operator: Operator) -> bool
+        ensures yes { IsTrue result → self.wrapper ≡ Some operator }
+        ensures no { result ≡ false → self.wrapper ≢ Some operator }
+    {
+        match self.wrapper {
+            Some(wrapper) => wrapper == operator,
+            None => false,
+        }
+    }
+
+    /// The place in an element that gives nothing.
+    pub fn inside(self) -> Place
+        ensures { result ≡ record self { level = layout.deeper self.level; wrapper = None } }
+    {
+        Place {
+            level: deeper(self.level),
+            wrapper: None,
+            namespace: self.namespace,
+            library: self.library,
+        }
+    }
+
+    /// The same place, where children are in this connector anyhow.
+    pub fn wrapped(self, wrapper: Operator) -> Place
+        ensures { result ≡ record self { wrapper = Some wrapper } }
+    {
+        Place {
+            level: self.level,
+            wrapper: Some(wrapper),
+            namespace: self.namespace,
+            library: self.library,
+        }
+    }
+
+    /// The same place, where children are in no connector.
+    pub fn alone(self) -> Place
+        ensures { result ≡ record self { wrapper = None } }
+    {
+        Place {
+            level: self.level,
+            wrapper: None,
+            namespace: self.namespace,
+            library: self.library,
+        }
+    }
+
+    /// The same place under another `ns`.
+    pub fn under(self, namespace: UriSource) -> Place
+        ensures { result ≡ record self { namespace = namespace } }
+    {
+        Place {
+            level: self.level,
+            wrapper: self.wrapper,
+            namespace,
+            library: self.library,
+        }
+    }
+
+    /// The same place under another `datatypeLibrary`.
+    pub fn with_library(self, library: UriSource) -> Place
+        ensures { result ≡ record self { library = library } }
+    {
+        Place {
+            level: self.level,
+            wrapper: self.wrapper,
+            namespace: self.namespace,
+            library,
+        }
+    }
+}
