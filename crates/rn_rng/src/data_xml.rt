@@ -29,6 +29,7 @@ fn typed_tag<'t>(
 }
 
 /// Writes the line of a value; one without a datatype has no attribute.
+#[inline(never)]
 pub(crate) fn write_value<'v>(
     writer: &mut Writer,
     namespaces: &'v Namespaces<'_, '_>,
@@ -43,6 +44,7 @@ pub(crate) fn write_value<'v>(
 }
 
 /// Writes data without an except.
+#[inline(never)]
 pub(crate) fn write_data<'v>(
     writer: &mut Writer,
     namespaces: &'v Namespaces<'_, '_>,
@@ -60,6 +62,7 @@ pub(crate) fn write_data<'v>(
 }
 
 /// Writes the start tag of data and its parameters, and answers the place in it.
+#[inline(never)]
 pub(crate) fn open_data<'v>(
     writer: &mut Writer,
     namespaces: &'v Namespaces<'_, '_>,

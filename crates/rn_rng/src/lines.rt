@@ -162,11 +162,13 @@ impl Writer {
     }
 
     /// Appends the line of a start tag without attributes.
+    #[inline(never)]
     pub fn open_bare(&mut self, level: usize, element: &str) {
         self.open(level, &Tag::bare(element));
     }
 
     /// Appends the line of an element without attributes and content.
+    #[inline(never)]
     pub fn empty_bare(&mut self, level: usize, element: &str) {
         self.empty(level, &Tag::bare(element));
     }

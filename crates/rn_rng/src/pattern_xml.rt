@@ -44,6 +44,7 @@ fn named_tag<'t>(
 }
 
 /// Writes the start tag of an element with a name as its attribute, and answers the place in it.
+#[inline(never)]
 fn open_named<'t>(
     writer: &mut Writer,
     namespaces: &'t Namespaces<'_, '_>,
@@ -61,6 +62,7 @@ fn open_named<'t>(
 }
 
 /// Writes an attribute of a name and of any text.
+#[inline(never)]
 fn write_text_attribute<'t>(
     writer: &mut Writer,
     namespaces: &'t Namespaces<'_, '_>,
@@ -72,6 +74,7 @@ fn write_text_attribute<'t>(
 }
 
 /// Writes a reference.
+#[inline(never)]
 fn write_ref(writer: &mut Writer, level: usize, name: &str) {
     writer.empty(level, &Tag::with("ref", Attribute::new("name", name)));
 }
