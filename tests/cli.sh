@@ -249,13 +249,11 @@ row 'a name behind --' 0 'rncset 2\nwithdrawn -a 3\nend 1\n' '' withdraw -- -a 3
 
 # ---- the stack: what 256 open brackets take of it
 deep_texts
-for file in deep-*.rnc deepest-*.rnc; do
-    kib=512
-    case $file in deepest-*) kib=1024 ;; esac
+for file in deep-*.rnc; do
     made "$file.set" pack a 1 "$file"
     if [ "$checked" -eq 0 ]; then
-        shallow "check $file" "$kib" check "$file"
-        shallow "print $file" "$kib" print "$file.set"
+        shallow "check $file" check "$file"
+        shallow "print $file" print "$file.set"
     else
         left_out=$((left_out + 2))
     fi

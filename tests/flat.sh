@@ -615,10 +615,14 @@ bad except_of_a_loop 1 "round.rnc:1:34: error: this stands for more than data, v
 # ---- the stack: what 256 open brackets take of it
 room stack
 deep_texts
+nested deep-grammars 255 'start = ' 'grammar { start = ' text ' }' ''
+nested deep-grammars-of-elements 127 'start = element r { ' 'element a { grammar { start = ' text ' } }' ' }'
 # A program compiled with checks takes more.
 if [ "${CHECKED:-0}" -eq 0 ]; then
-    for file in deep-*.rnc; do shallow "$file" 512 "$file"; done
-    for file in deepest-*.rnc; do shallow "$file" 1024 "$file"; done
+    for file in deep-*.rnc; do
+        shallow "$file" "$file"
+        shallow "$file, in XML" --rng "$file"
+    done
 fi
 
 # ---- colours

@@ -13,8 +13,8 @@ use Rattle.rn_syntax.specs.Tree as t
 use Rattle.rn_syntax.specs.Tree.{Declaration, Item, Items}
 use Rattle.rn_syntax.specs.TokenTerminals.{terminals}
 use Rattle.rn_syntax.specs.Beginnings.{HasTree}
-use Rattle.rn_syntax.specs.Places.{deep}
-use Rattle.rn_syntax.specs.Faults.{kind_rank, kind_places}
+use Rattle.rn_syntax.specs.Places.{deep, prefix_places, builtin_places, context_places, except_places}
+use Rattle.rn_syntax.specs.Faults.{kind_rank}
 use Rattle.rn_syntax.specs.declared.fault.FaultKind.{FaultKind}
 use Rattle.rn_syntax.specs.declared.fault.FaultKind.TheVariants as kind
 use Rattle.rn_assemble.specs.Components.{Key, start_key, Component, NamedModule, has_key, all_components, components, handed_on, modules_named, Includes, instance_limit, instances, roots, set_components}
@@ -59,13 +59,20 @@ IsModuleOf text m = IsUtf8 text × ((ts : List Lexeme) × HasTokens (chars text)
 abbrev pub TokensAre : Text → (List Lexeme → Type 0) → Type 0
 TokensAre text P = IsUtf8 text × ((ts : List Lexeme) × HasTokens (chars text) ts × P ts)
 
+-- the text is a module, in whose tree there are such places
+abbrev pub TreeHas : Text → (t.Module → List ℕ) → Type 0
+TreeHas text places = (m : t.Module) × IsModuleOf text m × (places m ≢ [])
+
 -- the text has the fault, whatever else it has
 abbrev pub HasTextFault : Text → FaultKind → Type 0
 HasTextFault text kind.Encoding = ¬ IsUtf8 text
 HasTextFault text kind.Lexical = IsUtf8 text × ((ts : List Lexeme) → ¬ HasTokens (chars text) ts)
 HasTextFault text kind.Deep = TokensAre text (λ ts. is_some (deep 0 (terminals ts)) ≡ true)
 HasTextFault text kind.Syntax = TokensAre text (λ ts. (m : t.Module) → ¬ HasTree (terminals ts) m)
-HasTextFault text k = (m : t.Module) × IsModuleOf text m × (kind_places k m ≢ [])
+HasTextFault text kind.Prefix = TreeHas text prefix_places
+HasTextFault text kind.Builtin = TreeHas text builtin_places
+HasTextFault text kind.ContextValue = TreeHas text context_places
+HasTextFault text kind.Except = TreeHas text except_places
 
 -- the first fault of the text
 abbrev pub IsFirstFault : Text → FaultKind → Type 0
@@ -104,7 +111,8 @@ BreaksNameRules cs k = (has_key k cs ≡ true) × ¬ KeepsNameRules (joined_patt
 abbrev pub grammar_of : List NamedModule → Grammar
 grammar_of modules = joined_grammar (set_components modules)
 
--- the refusal stands for the modules, with the least fields that it has
+-- the refusal is true of modules that were read, with the least fields that it has; `conflict` and `faulty` say why a set's modules
+-- weren't read, so they are true of no modules: `Stands` says when they are true of a set
 abbrev pub StandsFor : List NamedModule → Refusal → Type 0
 StandsFor modules (conflict x r) = ⊥
 StandsFor modules (faulty f x) = ⊥

@@ -37,12 +37,12 @@ use rn_modset::ModuleSet;
 use rn_pattern::Seed;
 use std::alloc::Global;
 
-/// The grammar of a set with short texts in the place of long URIs, and the URIs that they stand for.
+/// The grammar of a set with short texts in the place of its URIs, and the URI of each short text.
 #[derive(Drop)]
 pub struct ShortGrammar {
-    /// The grammar of the set, with short texts in the place of its long URIs.
+    /// The grammar of the set; where a module declares a long URI, with a short text in the place of each URI.
     pub grammar: Grammar,
-    /// The URI that each short text stands for. None where no URI of the set is long.
+    /// The URI of each short text. None where no URI that a module declares is long.
     pub uris: ShortUris,
 }
 
@@ -58,10 +58,10 @@ pub fn assemble(alloc: Global, set: &ModuleSet) -> Result<Grammar, Refusal>
     join_modules(alloc, modules, &seed_of(set))
 }
 
-/// The grammar of the set (RELAX NG 2001, 4.7, 4.11, 4.17) with short texts in the place of URIs of more than
-/// [`MAX_KEPT_URI`](crate::MAX_KEPT_URI) bytes, so that names are compared by few bytes, though a URI may have
-/// megabytes. Or the first refusal that stands, of those from `Conflict` to `NameClass` in the order of `Refusal`: the
-/// one that [`assemble`](crate::assemble) answers. `Memory` is for out of memory alone. The set is left as it is.
+/// The grammar of the set, as [`assemble`](crate::assemble) answers it. But where a module declares a URI of more than
+/// [`MAX_KEPT_URI`](crate::MAX_KEPT_URI) bytes, each URI that a module declares has a short text in its place, so that
+/// few bytes of it are compared; those that mean something by themselves stay. Or the first refusal that is true of the
+/// set, as `assemble` answers it. The set is left as it is.
 pub fn assemble_short(alloc: Global, set: &ModuleSet) -> Result<ShortGrammar, Refusal>
     ensures { MatchResult result
         (λ g. IsShortened set.now (short_texts g.uris) (grammar_view g.grammar))

@@ -1,6 +1,7 @@
 // Why a set has no schema.
-ghost use Rattle.std.specs.Prelude.{◌≡◌, MatchOption, Some, None, string_bytes};
-ghost use Rattle.rn_assemble.specs.Refused.{fault_of};
+ghost use Rattle.std.specs.Prelude.{◌≡◌, Some, string_bytes};
+ghost use Rattle.rn_assemble.specs.Refusal.{faulty};
+ghost use Rattle.rn_assemble.specs.Refused.{refusal_view};
 
 use crate::instances::INSTANCE_LIMIT;
 use rn_modset::SetFault;
@@ -141,8 +142,8 @@ pub enum Refusal {
 
 impl Refusal {
     /// The refusal of a module whose text has a fault of this kind.
-    pub fn of_fault(kind: FaultKind, module: String) -> Self
-        ensures { fault_of result ≡ Some (kind, string_bytes «module») }
+    pub(crate) fn of_fault(kind: FaultKind, module: String) -> Self
+        ensures { refusal_view result ≡ Some (faulty kind (string_bytes «module»)) }
     {
         match kind {
             FaultKind::Encoding => Refusal::Encoding { module },
@@ -153,24 +154,6 @@ impl Refusal {
             FaultKind::Builtin => Refusal::Builtin { module },
             FaultKind::ContextValue => Refusal::ContextValue { module },
             FaultKind::Except => Refusal::Except { module },
-        }
-    }
-
-    /// The kind of fault for which a module's text is refused, and the module. None for refusals of other kinds.
-    pub fn fault(&self) -> Option<(FaultKind, &str)>
-        ensures { MatchOption result (fault_of self.now ≡ None)
-            (λ found. fault_of self.now ≡ Some (found.0, found.1.now)) }
-    {
-        match self {
-            Refusal::Encoding { module } => Some((FaultKind::Encoding, module.as_str())),
-            Refusal::Lexical { module } => Some((FaultKind::Lexical, module.as_str())),
-            Refusal::Deep { module } => Some((FaultKind::Deep, module.as_str())),
-            Refusal::Syntax { module } => Some((FaultKind::Syntax, module.as_str())),
-            Refusal::Prefix { module } => Some((FaultKind::Prefix, module.as_str())),
-            Refusal::Builtin { module } => Some((FaultKind::Builtin, module.as_str())),
-            Refusal::ContextValue { module } => Some((FaultKind::ContextValue, module.as_str())),
-            Refusal::Except { module } => Some((FaultKind::Except, module.as_str())),
-            _ => None,
         }
     }
 }

@@ -2,6 +2,7 @@
 ghost use Rattle.std.specs.Prelude.{◌≡◌, List, [], map, IfOk};
 ghost use Rattle.std.specs.Cow.{cow_str_bytes};
 ghost use Rattle.std.specs.Rc.{rc_str_bytes};
+ghost use Rattle.rn_pattern.specs.Opened.{pair};
 ghost use Rattle.rn_pattern.specs.Tree as tree;
 ghost use Rattle.rn_pattern.specs.Tree.{name_trees_of};
 ghost use Rattle.rn_text.specs.Texts.{Text};
@@ -11,7 +12,6 @@ ghost use Rattle.rn_syntax.specs.View as seen;
 ghost use Rattle.rn_assemble.specs.inside.ContextBindings.{InContext};
 ghost use Rattle.rn_assemble.specs.Resolve as resolve;
 
-use crate::constants::Constants;
 use crate::context::Context;
 use crate::nodes::{
     choice, copy_text, group, interleave, list, mixed_pattern, new_member, one_or_more,
@@ -193,6 +193,7 @@ fn datum(alloc: Global, context: Context<'_, '_>, data: &Data<'_>) -> Result<Pat
 }
 
 /// The datatype without the values of a pattern.
+#[inline(never)]
 fn datum_but(
     alloc: Global,
     context: Context<'_, '_>,
@@ -215,36 +216,6 @@ fn datum_but(
     )
 }
 
-/// An element; a name without prefix is in the default namespace.
-fn element(
-    alloc: Global,
-    context: Context<'_, '_>,
-    class: &Nc<'_>,
-    content: Pattern,
-) -> Result<Pattern, AllocError>
-    ensures { InContext context.entry (λ inherited ds. IfOk result (λ p. pattern_view p
-        ≡ tree.element (resolve.resolved_class inherited ds (resolve.default_of inherited ds)
-        (seen.class_view class.now)) (pattern_view content))) }
-{
-    let class = name_class(alloc, context, context.default_namespace(), class)?;
-    Ok(Pattern::Element(new_box(alloc, Named { class, content })?))
-}
-
-/// An attribute; a name without prefix is in no namespace.
-fn attribute(
-    alloc: Global,
-    context: Context<'_, '_>,
-    class: &Nc<'_>,
-    content: Pattern,
-) -> Result<Pattern, AllocError>
-    ensures { InContext context.entry (λ inherited ds. IfOk result (λ p. pattern_view p
-        ≡ tree.attribute (resolve.resolved_class inherited ds [] (seen.class_view class.now))
-        (pattern_view content))) }
-{
-    let class = name_class(alloc, context, &context.bindings.constants.none, class)?;
-    Ok(Pattern::Attribute(new_box(alloc, Named { class, content })?))
-}
-
 fn chain(operator: Operator, members: Vec<Rc<Pattern>>) -> Pattern
     ensures { (inherited : Text) (ds : List source.Declaration)
         → pattern_view result
@@ -257,16 +228,71 @@ fn chain(operator: Operator, members: Vec<Rc<Pattern>>) -> Pattern
     }
 }
 
+/// An element; a name without prefix is in the default namespace.
+#[cycle(pattern)]
+#[inline(never)]
+fn element(
+    alloc: Global,
+    context: Context<'_, '_>,
+    named: &rn_syntax::Named<'_>,
+) -> Result<Pattern, AllocError>
+    ensures { InContext context.entry (λ inherited ds. IfOk result (λ p. pattern_view p
+        ≡ tree.element (resolve.resolved_class inherited ds (resolve.default_of inherited ds)
+        (seen.class_view named.now.class))
+        (resolve.resolved_pattern inherited ds (seen.pattern_view named.now.content)))) }
+{
+    let content = resolve_pattern(alloc, context, &named.content)?;
+    let class = name_class(alloc, context, context.default_namespace(), &named.class)?;
+    Ok(Pattern::Element(new_box(alloc, Named { class, content })?))
+}
+
+/// An attribute; a name without prefix is in no namespace.
+#[cycle(pattern)]
+#[inline(never)]
+fn attribute(
+    alloc: Global,
+    context: Context<'_, '_>,
+    named: &rn_syntax::Named<'_>,
+) -> Result<Pattern, AllocError>
+    ensures { InContext context.entry (λ inherited ds. IfOk result (λ p. pattern_view p
+        ≡ tree.attribute (resolve.resolved_class inherited ds [] (seen.class_view named.now.class))
+        (resolve.resolved_pattern inherited ds (seen.pattern_view named.now.content)))) }
+{
+    let content = resolve_pattern(alloc, context, &named.content)?;
+    let class = name_class(
+        alloc,
+        context,
+        &context.bindings.constants.none,
+        &named.class,
+    )?;
+    Ok(Pattern::Attribute(new_box(alloc, Named { class, content })?))
+}
+
+#[cycle(pattern)]
+#[inline(never)]
+fn mixed(alloc: Global, context: Context<'_, '_>, content: &Pat<'_>) -> Result<Pattern, AllocError>
+    ensures { InContext context.entry (λ inherited ds. IfOk result (λ p. pattern_view p
+        ≡ tree.interleave (pair (resolve.resolved_pattern inherited ds
+        (seen.pattern_view content.now)) tree.text))) }
+{
+    let content = resolve_pattern(alloc, context, content)?;
+    mixed_pattern(alloc, &context.bindings.constants, content)
+}
+
+#[cycle(pattern)]
+#[inline(never)]
 fn repetition(
     alloc: Global,
-    constants: &Constants,
+    context: Context<'_, '_>,
     postfix: Postfix,
-    content: Pattern,
+    content: &Pat<'_>,
 ) -> Result<Pattern, AllocError>
-    ensures { (inherited : Text) (ds : List source.Declaration)
-        → IfOk result (λ p. pattern_view p
-        ≡ resolve.repetition inherited ds postfix (pattern_view content)) }
+    ensures { InContext context.entry (λ inherited ds. IfOk result (λ p. pattern_view p
+        ≡ resolve.repetition inherited ds postfix
+        (resolve.resolved_pattern inherited ds (seen.pattern_view content.now)))) }
 {
+    let content = resolve_pattern(alloc, context, content)?;
+    let constants = &context.bindings.constants;
     match postfix {
         Postfix::Question => optional_pattern(alloc, constants, content),
         Postfix::Star => optional_pattern(alloc, constants, one_or_more(alloc, content)?),
@@ -276,6 +302,7 @@ fn repetition(
 
 /// A written pattern with its names resolved, in a box.
 #[cycle(pattern)]
+#[inline(never)]
 fn pattern(
     alloc: Global,
     context: Context<'_, '_>,
@@ -287,7 +314,7 @@ fn pattern(
     new_box(alloc, resolve_pattern(alloc, context, written)?)
 }
 
-/// A written pattern with its names resolved (RELAX NG 2001, 4.8 to 4.15).
+/// A written pattern with its names resolved (RELAX NG 2001, 4.8 to 4.15). Its arms stay apart, to spare the stack.
 #[cycle(pattern)]
 pub(crate) fn resolve_pattern(
     alloc: Global,
@@ -298,19 +325,10 @@ pub(crate) fn resolve_pattern(
         ≡ resolve.resolved_pattern inherited ds (seen.pattern_view written.now))) }
 {
     match written {
-        Pat::Element(named) => {
-            let content = resolve_pattern(alloc, context, &named.content)?;
-            element(alloc, context, &named.class, content)
-        }
-        Pat::Attribute(named) => {
-            let content = resolve_pattern(alloc, context, &named.content)?;
-            attribute(alloc, context, &named.class, content)
-        }
+        Pat::Element(named) => element(alloc, context, named),
+        Pat::Attribute(named) => attribute(alloc, context, named),
         Pat::List(content) => Ok(list(pattern(alloc, context, content)?)),
-        Pat::Mixed(content) => {
-            let content = resolve_pattern(alloc, context, content)?;
-            mixed_pattern(alloc, &context.bindings.constants, content)
-        }
+        Pat::Mixed(content) => mixed(alloc, context, content),
         Pat::Empty => Ok(Pattern::Empty),
         Pat::NotAllowed => Ok(Pattern::NotAllowed),
         Pat::Text => Ok(Pattern::Text),
@@ -321,10 +339,7 @@ pub(crate) fn resolve_pattern(
             let except = pattern(alloc, context, except)?;
             datum_but(alloc, context, data, except)
         }
-        Pat::Repeated(postfix, content) => {
-            let content = resolve_pattern(alloc, context, content)?;
-            repetition(alloc, &context.bindings.constants, *postfix, content)
-        }
+        Pat::Repeated(postfix, content) => repetition(alloc, context, *postfix, content),
         Pat::Chain(operator, members) => {
             let members = patterns(alloc, context, members)?;
             Ok(chain(*operator, members))
@@ -333,6 +348,7 @@ pub(crate) fn resolve_pattern(
 }
 
 #[cycle(pattern)]
+#[inline(never)]
 fn patterns(
     alloc: Global,
     context: Context<'_, '_>,

@@ -13,8 +13,8 @@ use std::alloc::{AllocError, Global};
 use std::cmp::Ordering;
 use std::collections::BTreeSet;
 
-/// The most bytes of a URI that isn't long. Where no module of a set declares a long one, each URI stands for itself
-/// while the modules are put together.
+/// The most bytes of a URI that isn't long. Where no module of a set declares a long one, each URI keeps its own text
+/// while the modules are put together; where one does, none does but those that mean something by themselves.
 pub const MAX_KEPT_URI: usize = 64;
 
 /// A URI, and the text that stands for it.

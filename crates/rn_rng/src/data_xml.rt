@@ -64,6 +64,7 @@ fn value_tag<'t>(
 }
 
 /// Writes the line of a value.
+#[inline(never)]
 pub(crate) fn write_value(
     writer: &mut Writer,
     namespaces: &Namespaces<'_, '_>,
@@ -80,6 +81,7 @@ pub(crate) fn write_value(
 }
 
 /// Writes data without an except.
+#[inline(never)]
 pub(crate) fn write_data(
     writer: &mut Writer,
     namespaces: &Namespaces<'_, '_>,
@@ -102,6 +104,7 @@ pub(crate) fn write_data(
 }
 
 /// Writes the start tag of data and its parameters.
+#[inline(never)]
 pub(crate) fn open_data(
     writer: &mut Writer,
     namespaces: &Namespaces<'_, '_>,

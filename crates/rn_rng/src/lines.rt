@@ -208,6 +208,7 @@ impl Writer {
     }
 
     /// Appends the line of a start tag without attributes.
+    #[inline(never)]
     pub fn open_bare(&mut self, level: usize, element: &str)
         ensures { Writes (tag_front level element.now [] ++ codes ">\n") self.old self.new }
     {
@@ -215,6 +216,7 @@ impl Writer {
     }
 
     /// Appends the line of an element without attributes and content.
+    #[inline(never)]
     pub fn empty_bare(&mut self, level: usize, element: &str)
         ensures { Writes (tag_front level element.now [] ++ codes "/>\n") self.old self.new }
     {

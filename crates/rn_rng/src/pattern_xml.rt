@@ -130,6 +130,7 @@ fn open_head(
 }
 
 /// Writes an attribute of any text.
+#[inline(never)]
 fn write_text_attribute(
     writer: &mut Writer,
     namespaces: &Namespaces<'_, '_>,
@@ -158,6 +159,7 @@ fn write_text_attribute(
 }
 
 /// Writes a reference.
+#[inline(never)]
 fn write_ref(writer: &mut Writer, level: usize, name: &str)
     ensures { Writes (item_text level (translation.element (codes "ref")
         (attribute (codes "name") name.now ∷ []) document.no_items)) writer.old writer.new }

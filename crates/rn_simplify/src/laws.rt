@@ -112,13 +112,15 @@ pub fn combinations_are_read_back()
         ↔ IsValid (module_grammar r.tree) T doc }
 {}
 
-/// What is read back of a canonical text has the canonical grammar that was printed, and no other; and none of the
-/// refusals of modules stands for it, under any name of the module.
+/// What is read back of a canonical text has the canonical grammar that was printed, and no other. Where the grammar was
+/// well formed, it is too, and none of the refusals of modules is true of it, under any name of the module.
 pub fn what_is_read_back_stays()
     ensures same { (G N : Grammar) → IsCanonicalOf G N → (r : IsReadBack N)
         → IsCanonicalOf (module_grammar r.tree) N }
     ensures no_other { (G N M : Grammar) → IsCanonicalOf G N → (r : IsReadBack N)
         → IsCanonicalOf (module_grammar r.tree) M → M ≡ N }
+    ensures well_formed { (G N : Grammar) → IsCanonicalOf G N → IsWellFormed G
+        → (r : IsReadBack N) → IsWellFormed (module_grammar r.tree) }
     ensures no_refusal { (G N : Grammar) → IsCanonicalOf G N → IsWellFormed G
         → (r : IsReadBack N) (name : Text) (q : Refusal)
         → ¬ StandsFor (record { name = name; tree = r.tree } ∷ []) q }
@@ -129,15 +131,13 @@ pub fn one_verdict()
     ensures { (s : List Member) (v w : Verdict) → IsVerdict s v → IsVerdict s w → v ≡ w }
 {}
 
-/// The text that is the verdict of a set is that of its canonical grammar. It has no fault, so it is read back: as a
-/// module that is valid for exactly the documents of the set's definitions, combined in any pairs and any order (RELAX
-/// NG 2001, 4.17), and that has the same canonical grammar and text again.
+/// The text that is the verdict of a set is that of its canonical grammar. It has no fault, and is read back as a module
+/// that is valid for exactly the documents of the set's definitions, in any combination (RELAX NG 2001, 4.17).
 pub fn printed_sets_are_read_back()
     ensures { (s : List Member) (text : Text) → IsVerdict s (prints text) → IsReadAgain s text }
 {}
 
-/// The text that is the verdict of a set is also the verdict of each set of which it is the one effective module, under
-/// any name.
+/// The text that is a set's verdict is the verdict of each set of which it is the one effective module, of any name.
 pub fn printed_texts_are_printed_again()
     ensures { (s : List Member) (text : Text) → IsVerdict s (prints text)
         → (u : List Member) (name : Text) → AreEffective u ((name, text) ∷ [])

@@ -22,8 +22,8 @@ use Rattle.rn_syntax.proofs.OneReading.OneTree.{one_tree}
 use Rattle.rn_syntax.proofs.TokenKinds.SourceTokens.{tokens_are_spelled}
 use Rattle.rn_assemble.specs.declared.refusal.Refusal as code
 use Rattle.rn_assemble.specs.declared.refusal.Refusal.TheVariants as r
-use Rattle.rn_assemble.specs.Refusal.{faulty, HasTextFault, IsFirstFault, IsModuleOf, TokensAre}
-use Rattle.rn_assemble.specs.Refused.{fault_of, faulty_or, other_view}
+use Rattle.rn_assemble.specs.Refusal.{Refusal, faulty, HasTextFault, IsFirstFault, IsModuleOf, TokensAre}
+use Rattle.rn_assemble.specs.Refused.{refusal_view}
 use Rattle.rn_assemble.specs.inside.ModuleTexts.{IsFaultOf, IsRead}
 use Rattle.rn_assemble.proofs.Refusals.OneSet.{one_module_of}
 
@@ -112,6 +112,6 @@ module _ (text : Text) where
   first_of_tokens xs u has fault h = let m = h.1 (tokens_are_spelled (chars text) xs has) in first_of_tree u (map lexeme_of xs) has h.0 m.0 m.1 _ _ m.2
 
 -- a refusal of the kind of the first fault
-pub of_refusal : (name text : Text) (q : code.Refusal) (k : FaultKind) → fault_of q ≡ Some (k, name) → IsFirstFault text k → IsFaultOf name text q
+pub of_refusal : (name text : Text) (q : code.Refusal) (k : FaultKind) → refusal_view q ≡ Some (faulty k name) → IsFirstFault text k → IsFaultOf name text q
 of_refusal name text q k is h =
-    subst (λ (o : Option (FaultKind × Text)). MatchOption (faulty_or (other_view q) o) (q ≡ r.Memory) (λ w. (f : FaultKind) × (w ≡ faulty f name) × IsFirstFault text f)) (sym is) (k, refl, h)
+    subst (λ (o : Option Refusal). MatchOption o (q ≡ r.Memory) (λ w. (f : FaultKind) × (w ≡ faulty f name) × IsFirstFault text f)) (sym is) (k, refl, h)

@@ -2,7 +2,7 @@
 use Rattle.std.proofs.Common.{◌≡◌, ⊎_elim, false, List, [], ◌∷◌, is_some, refl, sym, ap, ◌∙◌, subst, arith, Contains}
 use Rattle.std.proofs.lemmas.Bool.{false≢true}
 use Rattle.std.specs.Str.{chars}
-use Rattle.rn_text.specs.Tokens.{Lexeme, HasTokens}
+use Rattle.rn_text.specs.Tokens.{Lexeme, HasTokens, lexemes}
 use Rattle.rn_text.proofs.TokenLists.OneTokenList.{one_token_list}
 use Rattle.rn_text.specs.Texts.{Text}
 use Rattle.rn_pattern.specs.Matching.{Grammar}
@@ -28,15 +28,15 @@ use Rattle.rn_assemble.proofs.Refusals.NoRefusal.{assembled_well_formed}
 use Rattle.rn_assemble.proofs.Combined.OneModule.{one_module}
 use Rattle.rn_assemble.proofs.Refusals.OneSet.{one_effective, one_module_of, one_modules}
 use Rattle.rn_simplify.specs.ReadBack.{IsReadBack, is_too_deep}
-use Rattle.rn_simplify.specs.Spelling.{spelling}
+use Rattle.rn_simplify.specs.Spelling.{spelling, spelling_pieces}
 use Rattle.rn_simplify.specs.Verdict.{IsVerdict, prints}
-use Rattle.rn_simplify.proofs.ReadBack.Binding.{spelling_reads_back}
+use Rattle.rn_simplify.proofs.ReadBack.Binding.{spelling_is_cut, spelling_reads_back}
 use Rattle.rn_simplify.proofs.ReadBack.ReadAgain.{read_canonical, none_stands}
 use Rattle.rn_simplify.proofs.ReadBack.SpellableGrammars.{spellable}
 use Rattle.rn_assemble.proofs.WellFormed.GoodComponents.{set_grammar_writable}
 
 module _ (one_tree : (ts : Tokens) (m n : t.Module) → HasTree ts m → HasTree ts n → m ≡ n) where
-  module _ (n : Grammar) (r : IsReadBack n) (shallow : is_too_deep n ≡ false) where
+  module _ (n : Grammar) (r : IsReadBack n) (cut : HasTokens (chars (spelling n)) (lexemes 0 (spelling_pieces n))) (shallow : is_too_deep n ≡ false) where
     is_module : IsModuleOf (spelling n) r.tree
     is_module = (r.utf8, (r.tokens, r.has_tokens, r.has_tree))
 
@@ -50,7 +50,9 @@ module _ (one_tree : (ts : Tokens) (m n : t.Module) → HasTree ts m → HasTree
     pub no_fault : (f : FaultKind) → ¬ HasTextFault (spelling n) f
     no_fault kind.Encoding h = h r.utf8
     no_fault kind.Lexical (u, h) = h r.tokens r.has_tokens
-    no_fault kind.Deep (u, (ts, has, e)) = false≢true (sym shallow ∙ r.shallow ∙ ap (λ l. is_some (deep 0 (terminals l))) (sym (same_tokens ts has)) ∙ e)
+    no_fault kind.Deep (u, (ts, has, e)) =
+        let same = one_token_list (chars (spelling n)) (lexemes 0 (spelling_pieces n)) ts cut has in
+        false≢true (sym shallow ∙ ap (λ l. is_some (deep 0 (terminals l))) same ∙ e)
     no_fault kind.Syntax (u, (ts, has, none)) = none r.tree (subst (λ l. HasTree (terminals l) r.tree) (sym (same_tokens ts has)) r.has_tree)
     no_fault k h = h.2 (ap (kind_places k) (same_tree h.0 h.1) ∙ no_places r.tree r.no_prefix r.no_builtin r.no_context r.no_except k)
 
@@ -97,7 +99,9 @@ module _ (one_tree : (ts : Tokens) (m n : t.Module) → HasTree ts m → HasTree
   pub printed_again : (s : List Member) (text : Text) → IsVerdict s (prints text) → (u : List Member) (x : Text) → AreEffective u ((x, text) ∷ []) → IsVerdict u (prints text)
   printed_again s text (n, (g, (none, (modules, a, e)), c), (short, shallow, is)) u x effective =
       let k : IsCanonicalOf (grammar_of modules) n = subst (λ f. IsCanonicalOf f n) e c in
-      let r = spelling_reads_back n (spellable (grammar_of modules) n k (set_grammar_writable s modules a) (omega (arith, short))) in
+      let spelled = spellable (grammar_of modules) n k (set_grammar_writable s modules a) (omega (arith, short)) in
+      let r = spelling_reads_back n spelled in
+      let cut = spelling_is_cut n spelled in
       let w = assembled_well_formed s modules a none in
       let b : AreEffective u ((x, spelling n) ∷ []) = subst (λ y. AreEffective u ((x, y) ∷ [])) is effective in
-      (n, (grammar_of (printed n r shallow x), assembled n r shallow x u b (grammar_of modules) k w, canonical n r shallow x u b (grammar_of modules) k w), (short, shallow, is))
+      (n, (grammar_of (printed n r cut shallow x), assembled n r cut shallow x u b (grammar_of modules) k w, canonical n r cut shallow x u b (grammar_of modules) k w), (short, shallow, is))

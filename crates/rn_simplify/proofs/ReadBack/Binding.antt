@@ -2,7 +2,7 @@
 use Rattle.std.proofs.Common.{◌≡◌, ℕ, ◌<◌, ◌^◌, Bool, true, false, cond, List, [], ◌∷◌, ◌++◌, length, map, flat_map, refl, sym, ap, ◌∙◌, subst, arith, ⊎_elim, ltb}
 use Rattle.std.specs.Prelude.{codes, decimal, bytes_eq, not, ◌&&◌, Some, None, is_some}
 use Rattle.std.specs.List.{list_any, AllByRecursion}
-use Rattle.std.specs.Str.{encode_utf8_all}
+use Rattle.std.specs.Str.{chars, encode_utf8_all}
 use Rattle.std.proofs.lemmas.Bool.{cases_Bool, cond-true, cond-false, and_parts, or_left, or_right, not-true}
 use Rattle.std.proofs.lemmas.Fmt.{decimal_digit}
 use Rattle.std.proofs.lemmas.Slice.Eq.{bytes_eq-Decides}
@@ -17,7 +17,8 @@ use Rattle.rn_syntax.specs.Places.{xml_uri, xsd_uri, declarations_places, declar
 use Rattle.rn_syntax.proofs.TokenKinds.PieceTokens.{ascii, behind}
 use Rattle.rn_assemble.specs.Resolve.{declared_text}
 use Rattle.std.specs.declared.cmp.Ordering.TheVariants.{Less}
-use Rattle.rn_simplify.specs.Spelling.{Prefixes, prefixes, place, namespace_prefix, library_prefix, namespace_entries, library_entries, has_empty_ns_name, bindings, default_line, grammar_namespaces, grammar_libraries, is_other}
+use Rattle.rn_text.specs.Tokens.{HasTokens, lexemes}
+use Rattle.rn_simplify.specs.Spelling.{spelling, spelling_pieces, Prefixes, prefixes, place, namespace_prefix, library_prefix, namespace_entries, library_entries, has_empty_ns_name, bindings, default_line, grammar_namespaces, grammar_libraries, is_other}
 use Rattle.rn_simplify.specs.Printable.{IsPrintable}
 use Rattle.rn_assemble.specs.WritableTexts.{IsXml, IsName, Free}
 use Rattle.rn_simplify.specs.Spellable.{IsSpellable}
@@ -25,7 +26,7 @@ use Rattle.rn_simplify.specs.ReadBack.{IsReadBack}
 use Rattle.rn_simplify.proofs.ReadBack.NeededBindings.{IsBoundTo, IsLibrary}
 use Rattle.rn_simplify.proofs.ReadBack.Lines.{IsEntry, empty_xml, libraries_from, IsDefinition}
 use Rattle.rn_assemble.proofs.Combined.PlainComponents.{mapped, zipped}
-use Rattle.rn_simplify.proofs.ReadBack.Whole.{declarations_of, IsDeclared, is_read_back}
+use Rattle.rn_simplify.proofs.ReadBack.Whole.{declarations_of, IsDeclared, is_read_back, spelled_tokens}
 use Rattle.rn_simplify.proofs.ReadBack.OrderedTexts.{less_differs, sorted_all, filter_all, sorted_keeps, filter_keeps, pick, AreApart, sorted_apart, filter_apart}
 use Rattle.rn_simplify.proofs.ReadBack.DeclaredPrefixes.{Entry, OtherPrefix, HaveOwnPrefixes, found, no_library, found_library, Fresh, FreshLibrary, IsOwnNamespace, IsOwnLibrary, clean_declarations}
 use Rattle.rn_simplify.proofs.ReadBack.NumberedPrefixes.{numbered_name, numbered_bytes, numbered_differ, place_bound, place_positive, place_one}
@@ -326,6 +327,10 @@ module _ (n : Grammar) (h : IsSpellable n) where
         (zipped (λ d. IsName d.0 × IsPrintable Free Free Free d.1) (λ d. Names N L d.1) n.definitions h.definitions names_of_definitions);
     distinct = h.distinct;
   }
+
+  -- the tokens of the grammar's text are those of its pieces
+  pub spelling_is_cut : HasTokens (chars (spelling n)) (lexemes 0 (spelling_pieces n))
+  spelling_is_cut = spelled_tokens n declared
 
   -- the text of the grammar is read back
   pub spelling_reads_back : IsReadBack n

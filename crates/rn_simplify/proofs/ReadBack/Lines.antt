@@ -57,10 +57,6 @@ namespace_sound : Sound (keyword (codes "namespace") ∷ [])
 unfolding is_keyword keywords
 namespace_sound = keyword_sound _ refl
 
-datatypes_sound : Sound (keyword (codes "datatypes") ∷ [])
-unfolding is_keyword keywords
-datatypes_sound = keyword_sound _ refl
-
 default_sound : Sound (keyword (codes "default") ∷ [])
 unfolding is_keyword keywords
 default_sound = keyword_sound _ refl

@@ -62,12 +62,18 @@ spelled_free n h =
     (free_free (bindings_free (codes "datatypes") (library_entries n) (keyword_sound _ datatypes_keyword) h.libraries)
     (free_free (start_free (prefixes n) (declarations_of n) refl h.start) (definitions_free (prefixes n) (declarations_of n) refl n.definitions h.definitions))))
 
+-- the tokens of the text are those of its pieces
+pub spelled_tokens : (n : Grammar) → IsDeclared n → HasTokens (chars (spelling n)) (lexemes 0 (spelling_pieces n))
+spelled_tokens n h =
+    let free = spelled_free n h in
+    let text : chars (spelling n) ≡ text_of (spelling_pieces n) = chars-encodes (text_of (spelling_pieces n)) (xml_scalars (text_of (spelling_pieces n)) free.xml) in
+    subst (λ cs. HasTokens cs (lexemes 0 (spelling_pieces n))) (sym text) (record { xml = free.xml; pieces = spelling_pieces n; cut = subst (λ t. IsCut t (spelling_pieces n) []) (append-nil (text_of (spelling_pieces n))) (free.before []); are = refl })
+
 pub is_read_back : (n : Grammar) → IsDeclared n → IsReadBack n
 is_read_back n h =
     let f = prefixes n in
     let ds = declarations_of n in
     let free = spelled_free n h in
-    let text : chars (spelling n) ≡ text_of (spelling_pieces n) = chars-encodes (text_of (spelling_pieces n)) (xml_scalars (text_of (spelling_pieces n)) free.xml) in
     let i = behind 0 default_line in
     let j = behind i (bindings (codes "namespace") (namespace_entries n)) in
     let k = behind j (bindings (codes "datatypes") (library_entries n)) in
@@ -86,8 +92,7 @@ is_read_back n h =
     record {
       utf8 = (text_of (spelling_pieces n), (xml_scalars (text_of (spelling_pieces n)) free.xml, refl));
       tokens = lexemes 0 (spelling_pieces n);
-      has_tokens = subst (λ cs. HasTokens cs (lexemes 0 (spelling_pieces n))) (sym text) (record { xml = free.xml; pieces = spelling_pieces n; cut = subst (λ t. IsCut t (spelling_pieces n) []) (append-nil (text_of (spelling_pieces n))) (free.before []); are = refl });
-      shallow = refl;
+      has_tokens = spelled_tokens n h;
       tree = m;
       has_tree = subst (λ ts. IsModule ts m) (terms-are 0 (spelling_pieces n) free.xml) parsed;
       no_prefix = both_nil _ _ h.clean items.2.clean.0;

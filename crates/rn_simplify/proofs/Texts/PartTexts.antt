@@ -12,7 +12,7 @@ use Rattle.rn_text.specs.Parts.{Piece}
 use Rattle.rn_pattern.specs.Tree.{NameTree, any_name, any_name_but, ns_name, ns_name_but, name, name_choice}
 use Rattle.rn_text.specs.Texts.{Text}
 use Rattle.rn_simplify.specs.declared.writer.Writer.{Writer}
-use Rattle.rn_simplify.specs.Spelling.{Prefixes, NodeText, closed, postfixed, chained, space, symbol, keyword, word, identifier, prefixed_piece, any_of, name_piece, type_piece, namespace_prefix, library_prefix, place, infix_of, comma, in_parentheses, in_braces, operand, primary, operand_in, primary_in, written_name}
+use Rattle.rn_simplify.specs.Spelling.{Prefixes, NodeText, chained, space, symbol, keyword, word, identifier, prefixed_piece, any_of, name_piece, type_piece, namespace_prefix, library_prefix, place, infix_of, in_parentheses, in_braces, operand, primary, operand_in, written_name}
 use Rattle.rn_simplify.specs.inside.Writes.{bytes_of, bracket_of, depth_after, depth_behind, opening, closing, none, Writes, WritesBytes}
 use Rattle.rn_syntax.specs.Places.{xml_uri, xsd_uri}
 use Rattle.rn_simplify.proofs.ReadBack.NumberedPrefixes.{numbered_bytes}
@@ -80,14 +80,6 @@ pub writes_bar : {a b : Writer} → WritesBytes (codes " | ") none a b → Write
 unfolding lib.Utf8.encode chars
 writes_bar h = writes_pieces _ refl (λ n. refl) h
 
-pub writes_ampersand : {a b : Writer} → WritesBytes (codes " & ") none a b → Writes (infix_of (codes "&")) a b
-unfolding lib.Utf8.encode chars
-writes_ampersand h = writes_pieces _ refl (λ n. refl) h
-
-pub writes_comma : {a b : Writer} → WritesBytes (codes ", ") none a b → Writes comma a b
-unfolding lib.Utf8.encode chars
-writes_comma h = writes_pieces _ refl (λ n. refl) h
-
 pub writes_minus : {a b : Writer} → WritesBytes (codes " - ") none a b → Writes (infix_of (codes "-")) a b
 unfolding lib.Utf8.encode chars
 writes_minus h = writes_pieces _ refl (λ n. refl) h
@@ -124,21 +116,6 @@ writes_braced ps h j k =
 
 pub operand_chained : (w : NodeText) → chained ≡ w.shape → operand w ≡ in_parentheses w.pieces
 operand_chained w e = ap (λ s. operand_in s w.pieces) (sym e)
-
-pub operand_closed : (w : NodeText) → closed ≡ w.shape → operand w ≡ w.pieces
-operand_closed w e = ap (λ s. operand_in s w.pieces) (sym e)
-
-pub operand_postfixed : (w : NodeText) → postfixed ≡ w.shape → operand w ≡ w.pieces
-operand_postfixed w e = ap (λ s. operand_in s w.pieces) (sym e)
-
-pub primary_chained : (w : NodeText) → chained ≡ w.shape → primary w ≡ in_parentheses w.pieces
-primary_chained w e = ap (λ s. primary_in s w.pieces) (sym e)
-
-pub primary_postfixed : (w : NodeText) → postfixed ≡ w.shape → primary w ≡ in_parentheses w.pieces
-primary_postfixed w e = ap (λ s. primary_in s w.pieces) (sym e)
-
-pub primary_closed : (w : NodeText) → closed ≡ w.shape → primary w ≡ w.pieces
-primary_closed w e = ap (λ s. primary_in s w.pieces) (sym e)
 
 -- ---- name classes
 

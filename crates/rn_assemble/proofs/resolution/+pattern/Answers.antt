@@ -16,14 +16,14 @@ patterns-returns t c = λ ds b.
     ap trees_of (c.loop-member.invariant ds b ∙ ap (map f) (take_all c.loop-member.member-index c.args.written.now (omega arith)))
     ∙ patterns_resolved (rc_str_bytes c.args.context.inherited.now) ds c.args.written.now
 
-pub resolve_pattern-returns-in_ok-content-in-Repeated : goal.resolve_pattern-returns-in_ok-content-in-Repeated
-resolve_pattern-returns-in_ok-content-in-Repeated t c = λ ds b.
+pub resolve_pattern-returns-in-Repeated : goal.resolve_pattern-returns-in-Repeated
+resolve_pattern-returns-in-Repeated t c = λ ds b.
     let i = (rc_str_bytes c.args.context.inherited.now) in
     let r = c.in-Repeated.postfix in
     let seen = ap (λ p. resolved_pattern i ds (pattern_view p)) c.in-Repeated.is ∙ ap (resolved_pattern i ds) (repeated_seen r c.in-Repeated.content) in
-    let inner = c.in_ok-content-in-Repeated.ensures ds b ∙ ap (λ p. resolved_pattern i ds (pattern_view p)) c.deref-in-Repeated.ensures in
-    IfOk-weaker c.repetition.result (λ p. resolved_view.pattern_view p ≡ repetition i ds r (resolved_view.pattern_view c.in_ok-content-in-Repeated.content)) _
-    (λ p h. h ∙ ap (repetition i ds r) inner ∙ sym seen) (c.repetition.ensures i ds)
+    let inner = ap (λ p. resolved_pattern i ds (pattern_view p)) c.deref-in-Repeated.ensures in
+    IfOk-weaker c.repetition.result (λ p. resolved_view.pattern_view p ≡ repetition i ds r (resolved_pattern i ds (pattern_view c.deref-in-Repeated.result.now))) _
+    (λ p h. h ∙ ap (repetition i ds r) inner ∙ sym seen) (c.repetition.ensures ds b)
 
 pub resolve_pattern-returns-in_ok-members-in-Chain : goal.resolve_pattern-returns-in_ok-members-in-Chain
 resolve_pattern-returns-in_ok-members-in-Chain t c = λ ds b.
