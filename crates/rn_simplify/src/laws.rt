@@ -113,7 +113,7 @@ pub fn combinations_are_read_back()
 {}
 
 /// What is read back of a canonical text has the canonical grammar that was printed, and no other; and none of the
-/// refusals of modules stands for it, under any name of the module.
+/// refusals of modules is true of it, under any name of the module.
 pub fn what_is_read_back_stays()
     ensures same { (G N : Grammar) → IsCanonicalOf G N → (r : IsReadBack N)
         → IsCanonicalOf (module_grammar r.tree) N }
