@@ -8,7 +8,6 @@ pub mod KeyNumbers
 pub mod NumberedReferences
 pub mod NamedLists
 pub mod KeyNames
-pub mod PackedNames
 pub mod LeastKeys
 pub mod MarkedPlaces
 pub mod KeyOrders

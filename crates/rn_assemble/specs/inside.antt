@@ -22,7 +22,6 @@ pub mod ModuleTexts
 pub mod Noting
 pub mod NumberRuns
 pub mod OneProof
-pub mod PackedNames
 pub mod Patterns
 pub mod ReferenceOrder
 pub mod Referred

@@ -74,7 +74,7 @@ pub fn assemble_short(alloc: Global, set: &ModuleSet) -> Result<ShortGrammar, Re
     Ok(ShortGrammar { grammar, uris })
 }
 
-/// The grammar of the modules, or the first refusal that stands for them. The modules are dropped piece by piece: the
+/// The grammar of the modules, or the first refusal that is true of them. The modules are dropped piece by piece: the
 /// items where their contents are known, and the tree of each component once it was resolved. The names of definitions
 /// are hashed by the seed.
 fn join_modules(
@@ -91,7 +91,7 @@ fn join_modules(
         (IsFirstOfModules (modules_view modules.entry.items)) }
 {
     let roots = included_roots(alloc, modules.as_slice())?;
-    let keys = Keys::new(alloc, modules.as_slice())?;
+    let keys = Keys::new(alloc, modules.as_slice(), seed)?;
     let constants = Constants::new(alloc)?;
     let (modules, items) = split_items(alloc, modules)?;
     let (contents, mut trees) = contents_of(alloc, modules.as_slice(), items, &keys, &constants)?;
@@ -112,7 +112,7 @@ fn join_modules(
     )
 }
 
-/// The grammar to which the modules' components are joined, or the first refusal that stands for them. The modules may
+/// The grammar to which the modules' components are joined, or the first refusal that is true of them. The modules may
 /// be without their items.
 fn join_keys<'s>(
     alloc: Global,

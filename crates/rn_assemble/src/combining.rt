@@ -55,7 +55,7 @@ impl Combining {
     }
 
     /// The pattern of a key's components combined, `None` for a key that has none. `NameClass` names the key where one
-    /// of them breaks the restrictions on name classes. Their trees are given up.
+    /// of them breaks the restrictions on name classes. Their trees are dropped.
     #[inline(always)]
     pub fn combine(
         &mut self,
@@ -98,8 +98,7 @@ impl Combining {
     }
 
     /// The pattern of a key's components combined, as [`Combining::combine`] answers it; but a key one of whose
-    /// components breaks the restrictions on name classes has none and is noted, since a lesser one may come. The only
-    /// error is want of memory.
+    /// components breaks the restrictions on name classes has none and is noted, since a lesser one may come.
     #[inline(always)]
     pub fn combine_or_note(
         &mut self,
@@ -166,7 +165,7 @@ fn nothing_shared(alloc: Global, components: &Components<'_, '_, '_>) -> Result<
     }
 }
 
-/// Gives up the trees of the key's components: of all bodies of the key, where there are fewer bodies than components.
+/// Drops the trees of the key's components: of all bodies of the key, where there are fewer bodies than components.
 fn give_up_trees(
     components: &Components<'_, '_, '_>,
     trees: &mut Trees<'_>,
@@ -188,7 +187,7 @@ fn give_up_trees(
     }
 }
 
-/// Gives up the trees of all bodies of the key.
+/// Drops the trees of all bodies of the key.
 fn give_up_bodies(
     components: &Components<'_, '_, '_>,
     trees: &mut Trees<'_>,
@@ -205,7 +204,7 @@ fn give_up_bodies(
     }
 }
 
-/// Gives up the tree of the body with a number, if it is of the key.
+/// Drops the tree of the body with a number, if it is of the key.
 fn give_up_tree(
     components: &Components<'_, '_, '_>,
     trees: &mut Trees<'_>,
@@ -225,7 +224,7 @@ fn give_up_tree(
     }
 }
 
-/// The pattern of the key's first component, whose tree is given up.
+/// The pattern of the key's first component, whose tree is dropped.
 #[inline(always)]
 fn combine_one(
     alloc: Global,
@@ -401,7 +400,7 @@ fn resolve_body(
     Ok(pattern)
 }
 
-/// The body's tree with its names resolved; `empty` in the place of a tree that was given up.
+/// The body's tree with its names resolved; `empty` in the place of a tree that was dropped.
 fn resolve_tree(
     alloc: Global,
     trees: &Trees<'_>,

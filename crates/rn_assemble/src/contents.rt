@@ -50,7 +50,7 @@ pub(crate) struct Contents<'t, 's> {
 pub(crate) type AllContents<'t, 's> = (Vec<Contents<'t, 's>>, Trees<'s>);
 
 /// The contents of each module, whose items are given apart, and the trees of all components, numbered on from module to
-/// module. The only error is want of memory.
+/// module.
 pub(crate) fn contents_of<'t, 's>(
     alloc: Global,
     modules: &'t [NamedModule<'s>],
@@ -155,7 +155,7 @@ fn gather_item<'t, 's>(
 {
     match item {
         Item::Define { name, method, body } => {
-            let key = keys.number(trees.len(), name);
+            let key = keys.number(name);
             push_component(contents, trees, keys, key, method, body)
         }
         Item::Start { method, body } => {

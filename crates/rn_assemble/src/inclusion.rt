@@ -21,7 +21,7 @@ use std::alloc::{AllocError, Global};
 use std::cmp::Ordering;
 
 /// The modules that no module includes. Or the first refusal that stands, of `Missing`, `Cycle` and `Instances`;
-/// `Memory` stands for want of memory alone.
+/// `Memory` comes only where memory runs out.
 pub(crate) fn included_roots(
     alloc: Global,
     modules: &[NamedModule<'_>],

@@ -1,4 +1,6 @@
 //! From a set of contributions to one grammar: includes, overrides, namespaces, combining, and the refusals of a set.
+//!
+//! Where a call answers `AllocError`, memory ran out; it refuses nothing else.
 #![tactic(auto)]
 
 pub mod assembly;
@@ -23,7 +25,6 @@ mod number_runs;
 mod numbers;
 mod one_run;
 mod overriding;
-mod packed_names;
 mod references;
 pub mod refusal;
 mod resolution;

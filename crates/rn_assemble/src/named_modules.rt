@@ -65,7 +65,7 @@ fn token_list<'a>(alloc: Global, modules: &Effective<'a>) -> Result<Vec<Token<'a
 /// The modules without their items, and the items of each module.
 pub(crate) type SplitModules<'a> = (Vec<NamedModule<'a>>, Vec<Vec<Item<'a>>>);
 
-/// The modules with their names and declarations alone, and the items of each module. The only error is want of memory.
+/// The modules with their names and declarations alone, and the items of each module.
 pub(crate) fn split_items<'a>(
     alloc: Global,
     modules: Vec<NamedModule<'a>>,

@@ -23,7 +23,7 @@ ghost use Rattle.rn_assemble.specs.inside.Trees.{TreeView, trees_by};
 mod looked_bodies;
 
 use crate::components::{Components, Near};
-use crate::keys::{Keys, NextKey, START};
+use crate::keys::{Keys, START};
 use crate::refusal::Refusal;
 use crate::settling_order::definition_numbers;
 use crate::trees::Trees;
@@ -40,8 +40,8 @@ struct Reference<'s> {
 }
 
 /// The references of all components. `Undefined` names the least name that is referred to and has no component.
-/// `defined` are the keys of the definitions. They are gone through in their order behind start, which is that of their
-/// bodies in memory. [`NextKey`] tells where a name is looked for first.
+/// `defined` are the keys of the definitions. They are gone through in their order after start, which is that of their
+/// bodies in memory.
 pub(crate) fn references_of<'s>(
     alloc: Global,
     keys: &Keys<'s>,
@@ -70,19 +70,11 @@ pub(crate) fn references_of<'s>(
     let count = defined.len() + 1;
     let mut rows = ReferenceRows::with_capacity(alloc, count)?;
     let mut near = Near::default();
-    let mut next = NextKey::new();
     for number in 0..count {
         let key = key_of_row(defined, number);
         bodies_of(components, key, &mut looked, &mut near, &mut bodies)?;
         references_in(components, trees, &bodies, &mut near, &mut references)?;
-        row_of(
-            keys,
-            components,
-            &references,
-            &mut next,
-            &mut undefined,
-            &mut row,
-        )?;
+        row_of(keys, components, &references, &mut undefined, &mut row)?;
         rows.push_row(&row)?;
     }
     match undefined {
@@ -217,7 +209,7 @@ fn references_in<'s>(
     Ok(())
 }
 
-/// The tree of the body with that number, if it wasn't given up.
+/// The tree of the body with that number, if it wasn't dropped.
 fn tree_of<'x, 's>(
     components: &Components<'_, '_, 's>,
     trees: &'x Trees<'s>,
@@ -279,7 +271,6 @@ fn row_of<'s>(
     keys: &Keys<'s>,
     components: &Components<'_, '_, 's>,
     references: &[Reference<'s>],
-    next: &mut NextKey,
     undefined: &mut Option<&'s str>,
     row: &mut NodeReferences,
 ) -> Result<(), AllocError>
@@ -296,9 +287,8 @@ fn row_of<'s>(
         undefined.old undefined.new) }
 {
     row.clear();
-    next.begin();
     for reference in references {
-        let key = keys.find_next(reference.name, next);
+        let key = keys.find(reference.name);
         add_key(row, key, reference.reach)?;
         *undefined = least_undefined(components, reference.name, key, *undefined);
     }

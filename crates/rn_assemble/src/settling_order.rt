@@ -3,9 +3,9 @@ ghost use Rattle.std.specs.Prelude.{ℕ, ◌<◌, ◌≤◌, ◌≡◌, IfOk, Li
 ghost use Rattle.std.specs.List.Sorted.{IsStrictlySortedBy};
 ghost use Rattle.rn_text.specs.Texts.{Text, text_cmp};
 ghost use Rattle.rn_pattern.specs.Graph.{IsGraph, row, rows_of};
-ghost use Rattle.rn_pattern.specs.Ranks.{HasNoLoop, IsFirstLoop, rank_of};
+ghost use Rattle.rn_pattern.specs.Ranks.{rank_of};
 ghost use Rattle.rn_assemble.specs.Components.{Component};
-ghost use Rattle.rn_assemble.specs.inside.ReferenceOrder.{AreDefinedKeys, ArePlaces, AreReached, IsKeyOrder, IsOrderBy, IsReferenceOrder};
+ghost use Rattle.rn_assemble.specs.inside.ReferenceOrder.{AreDefinedKeys, ArePlaces, IsKeyOrder, IsOrderBy, IsReferenceOrder};
 ghost use Rattle.rn_assemble.specs.inside.Referred.{AreAllReferences};
 ghost use Rattle.std.specs.List.{AllByRecursion, IsDistinct};
 ghost use Rattle.rn_assemble.specs.Combine.{joined_grammar};
@@ -17,9 +17,9 @@ ghost use Rattle.rn_assemble.specs.inside.Views.{names_of};
 
 use crate::components::{Components, Near};
 use crate::keys::{Keys, START};
+use rn_pattern::ReferenceRows;
 use rn_pattern::graph::{marked_rows, reached_nodes};
-use rn_pattern::ranks::{Order, least_looped, ranks};
-use rn_pattern::{ReferenceRows, Rows};
+use rn_pattern::ranks::{Order, ranks};
 use std::alloc::{AllocError, Global};
 
 /// An order of keys, or what stands against one.
@@ -31,8 +31,8 @@ pub(crate) enum KeyOrder {
     Recursive(usize),
 }
 
-/// The keys that start reaches in an order in which each comes behind those that it refers to outside elements, or the
-/// least that comes back to itself by such references. Mostly no key does that at all, so all rows are searched first.
+/// The keys that start reaches in an order in which each comes after those that it refers to outside elements, or the
+/// least that comes back to itself by such references.
 pub(crate) fn key_order(alloc: Global, references: &ReferenceRows) -> Result<KeyOrder, AllocError>
     requires everywhere { IsGraph (rows_of references.now.everywhere) }
     requires some { 0 < length (rows_of references.now.everywhere) }
@@ -45,42 +45,15 @@ pub(crate) fn key_order(alloc: Global, references: &ReferenceRows) -> Result<Key
 {
     let first = references.everywhere.row(START);
     let reached = reached_nodes(alloc, &references.everywhere, first)?;
-    match ranks(alloc, &references.outside)? {
-        Order::Ranked(ranks) => {
-            let order = marked_in_order(alloc, reached.as_slice(), ranks.as_slice())?;
-            Ok(KeyOrder::Ordered(order))
-        }
-        Order::Looped(_) => reached_order(alloc, &references.outside, reached.as_slice()),
-    }
-}
-
-/// The order of the keys that start reaches, or the least of them that comes back to itself. Of each key it is known
-/// whether it is reached. The rows of reached keys are searched alone.
-fn reached_order(alloc: Global, outside: &Rows, reached: &[bool]) -> Result<KeyOrder, AllocError>
-    requires graph { IsGraph (rows_of outside.now) }
-    requires size { length reached.now ≡ length (rows_of outside.now) }
-    ensures { (names : List Text) (cs : List Component) (all : List (List ℕ))
-        → IsStrictlySortedBy text_cmp names → AreAllReferences names cs all (rows_of outside.now)
-        → AreReached all reached.now → IfOk result (IsKeyOrder names cs) }
-{
-    let outside = marked_rows(alloc, outside, reached)?;
+    let reached = reached.as_slice();
+    let outside = marked_rows(alloc, &references.outside, reached)?;
     match ranks(alloc, &outside)? {
         Order::Ranked(ranks) => {
             let order = marked_in_order(alloc, reached, ranks.as_slice())?;
             Ok(KeyOrder::Ordered(order))
         }
-        Order::Looped(_) => Ok(KeyOrder::Recursive(least_on_loop(alloc, &outside)?)),
+        Order::Looped(key) => Ok(KeyOrder::Recursive(key)),
     }
-}
-
-/// The least node that comes back to itself, in a graph that has a loop.
-fn least_on_loop(alloc: Global, edges: &Rows) -> Result<usize, AllocError>
-    requires graph { IsGraph (rows_of edges.now) }
-    requires looped { ¬ HasNoLoop (rows_of edges.now) }
-    ensures { IfOk result (IsFirstLoop (rows_of edges.now)) }
-{
-    let least = least_looped(alloc, edges)?;
-    Ok(least.unwrap())
 }
 
 /// The places that have a mark, by the ranks of these.

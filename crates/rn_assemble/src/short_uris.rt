@@ -1,4 +1,4 @@
-// Short texts that stand for URIs while the modules of a set are put together.
+// Short texts in the place of URIs while the modules of a set are put together.
 ghost use Rattle.std.specs.Prelude.{◌≡◌, ◌↔◌, ◌<◌, ◌^◌, [], length, IfOk, IsTrue, MatchOption, None, Some, string_bytes};
 ghost use Rattle.std.specs.Map.{lookup};
 ghost use Rattle.std.specs.Str.{bytes_eq};
@@ -17,14 +17,14 @@ use std::collections::BTreeSet;
 /// while the modules are put together; where one does, none does but those that mean something by themselves.
 pub const MAX_KEPT_URI: usize = 64;
 
-/// A URI, and the text that stands for it.
+/// A URI, and its short text.
 #[derive(Drop)]
 pub(crate) struct ShortUri {
     pub short: String,
     pub uri: String,
 }
 
-/// Short texts that stand for URIs while the modules of a set are put together: of two URIs the lesser has the lesser
+/// Short texts in the place of URIs while the modules of a set are put together: of two URIs the lesser has the lesser
 /// text. So whoever compares two of them reads few bytes, however long the URIs are and however many names are in them.
 #[derive(Drop)]
 pub struct ShortUris {
@@ -32,7 +32,7 @@ pub struct ShortUris {
 }
 
 impl ShortUris {
-    /// No texts: each URI stands for itself. It takes no memory.
+    /// No texts: each URI is kept. It takes no memory.
     pub fn none(alloc: Global) -> ShortUris
         ensures { short_texts result ≡ [] }
     {
@@ -41,14 +41,14 @@ impl ShortUris {
         }
     }
 
-    /// Whether there are no short texts, so that each URI stands for itself.
+    /// Whether there are no short texts, so that each URI is kept.
     pub(crate) fn is_empty(&self) -> bool
         ensures { IsTrue result ↔ (short_texts self.now ≡ []) }
     {
         self.list.is_empty()
     }
 
-    /// The URI that a text stands for; the text itself if it is none of the short ones.
+    /// The URI of a short text; the text itself if it is none of the short ones.
     pub fn uri<'u>(&'u self, text: &'u str) -> &'u str
         requires { IsTable (short_texts self.now) }
         ensures { result.now ≡ long_uri (short_texts self.now) text.now }
@@ -59,7 +59,7 @@ impl ShortUris {
         }
     }
 
-    /// The short text that stands for a URI, if one does.
+    /// The short text of a URI, if it has one.
     pub(crate) fn short_text(&self, uri: &str) -> Option<&str>
         requires { IsTable (short_texts self.now) }
         ensures { MatchOption result (short_of (short_texts self.now) uri.now ≡ None)

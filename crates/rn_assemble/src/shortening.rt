@@ -168,20 +168,20 @@ pub(crate) fn shorten_modules<'a>(
 trait Shorten: Sized + Drop {
     ghost use Rattle.rn_assemble.specs.ShortTexts.{ShortTexts};
 
-    // A short text stands for each URI that it declares.
+    // Each URI that it declares has a short text.
     ghost is_covered: { ShortTexts → Self → Type 0 };
 
-    // With these short texts, the second stands for the first.
+    // With these short texts, the second replaces the first.
     ghost stands_for: { ShortTexts → Self → Self → Type 0 };
 
-    /// The value with short texts in the place of the URIs that it declares. The only error is want of memory.
+    /// The value with short texts in the place of the URIs that it declares.
     fn shorten(self, alloc: Global, uris: &ShortUris) -> Result<Self, AllocError>
         requires table { IsTable (short_texts uris.now) }
         requires covered { is_covered (short_texts uris.now) self }
         ensures { IfOk result (stands_for (short_texts uris.now) self) };
 }
 
-/// What stands for each of the list, with short texts in the place of its URIs.
+/// Each of the list, with short texts in the place of its URIs.
 fn shorten_each<T: Shorten>(
     alloc: Global,
     uris: &ShortUris,
@@ -241,7 +241,7 @@ impl<'a> Shorten for Declaration<'a> {
     }
 }
 
-/// The short text that stands for a URI.
+/// The short text of a URI.
 fn shorten_text<'a>(
     alloc: Global,
     uris: &ShortUris,

@@ -1,4 +1,4 @@
-// The trees of components, each until it is given up.
+// The trees of components, each until it is dropped.
 ghost use Rattle.std.specs.Prelude.{◌≡◌, ◌∷◌, ◌++◌, [], IfOk, Some, length};
 ghost use Rattle.std.specs.Option.{option_map_or};
 ghost use Rattle.rn_syntax.specs.Tree.{empty};
@@ -8,14 +8,14 @@ ghost use Rattle.rn_assemble.specs.inside.Trees.{AgreeElsewhere, StillGone, tree
 use rn_syntax::Pat;
 use std::alloc::{AllocError, Global};
 
-/// The tree of a component, until it is given up, and the number of the component's key.
+/// The tree of a component, until it is dropped, and the number of the component's key.
 #[derive(Drop)]
 struct KeyedTree<'s> {
     key: usize,
     tree: Option<Box<Pat<'s>>>,
 }
 
-/// The trees of a set's components, by their numbers. A tree that was given up takes no more memory than its number.
+/// The trees of a set's components, by their numbers. A tree that was dropped takes no more memory than its number.
 #[derive(Drop)]
 pub(crate) struct Trees<'s> {
     trees: Vec<KeyedTree<'s>>,
@@ -38,7 +38,7 @@ impl<'s> Trees<'s> {
         self.trees.len()
     }
 
-    /// Adds the tree of a component with this key. The only error is want of memory.
+    /// Adds the tree of a component with this key.
     pub fn push(&mut self, key: usize, tree: Box<Pat<'s>>) -> Result<(), AllocError>
         ensures { IfOk result (λ _. self.new.trees.items ≡ self.old.trees.items
             ++ record { key = key; tree = Some tree.entry } ∷ []) }
@@ -50,7 +50,7 @@ impl<'s> Trees<'s> {
         Ok(())
     }
 
-    /// The tree of that number, of a component with this key; none where it was given up.
+    /// The tree of that number, of a component with this key; none where it was dropped.
     #[inline(always)]
     pub fn tree(&self, key: usize, number: usize) -> Option<&Pat<'s>>
         ensures { option_map_or (λ p. pattern_view p.now) result empty
@@ -66,7 +66,7 @@ impl<'s> Trees<'s> {
         }
     }
 
-    /// Gives up the tree of that number, of a component with this key.
+    /// Drops the tree of that number, of a component with this key.
     #[inline(always)]
     pub fn give_up(&mut self, key: usize, number: usize)
         ensures others { AgreeElsewhere (trees_by self.new.trees.items)

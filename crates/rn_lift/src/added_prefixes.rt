@@ -31,7 +31,7 @@ impl AddedPrefixes {
         self.declarations
     }
 
-    /// Appends what stands for the prefix of a datatype of another file.
+    /// Appends what replaces the prefix of a datatype of another file.
     pub(crate) fn push_prefix(
         &mut self,
         alloc: Global,
@@ -92,7 +92,7 @@ fn take_used(alloc: Global, text: &str, taken: &mut Taken) -> Result<(), AllocEr
     Ok(())
 }
 
-/// The prefix of a name that has one, and what stands behind its colon.
+/// The prefix of a name that has one, and what follows its colon.
 pub(crate) fn split_name<'t>(token: &Token<'t>) -> Option<(&'t str, &'t str)> {
     match token.kind {
         Kind::Prefixed => token.text.split_once(':'),

@@ -19,7 +19,7 @@ pub(crate) enum Chunk {
         prefix: String,
         local: String,
     },
-    /// A part, which stands for something else.
+    /// A part, which is replaced.
     Link {
         /// The number of the part in its file.
         part: usize,
@@ -134,7 +134,7 @@ impl Cutter {
         Ok(())
     }
 
-    /// Cuts off what begins with a token: what stands behind that.
+    /// Cuts off what begins with a token: what follows that.
     fn step(
         &mut self,
         alloc: Global,

@@ -1,11 +1,11 @@
-// References in excepts: the parts that they are, the names that they mean, and whether these stand for data
+// References in excepts: the parts that they are, the names that they mean, and whether these are data
 // (RELAX NG 2001, 7.1.4).
 use crate::scope_definitions::{Definition, ScopedName};
 use rn_outline::{OutlineMethod, Part, PartKind};
 use rn_plan::{LiftFault, LiftFaultKind, Plan, Units};
 use std::alloc::{AllocError, Global};
 
-/// A part that stands for something else, in the file of a place.
+/// A part that is replaced, in the file of a place.
 #[derive(Clone, Copy)]
 pub(crate) struct Reference {
     pub(crate) place: usize,

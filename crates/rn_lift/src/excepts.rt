@@ -1,4 +1,4 @@
-// What references in excepts stand for (RELAX NG 2001, 7.1.4).
+// What references in excepts come to (RELAX NG 2001, 7.1.4).
 ghost use Rattle.std.specs.Prelude.{◌≡◌, false, [], IfOk, string_bytes};
 ghost use Rattle.std.specs.List.{list_any};
 ghost use Rattle.rn_lift.specs.inside.Excepted.{is_excepted};
@@ -71,7 +71,7 @@ enum ToWrite {
         body: usize,
         next: usize,
     },
-    /// The end of what a key stands for.
+    /// The end of what a key comes to.
     Leave(ScopedName),
 }
 
@@ -151,7 +151,7 @@ impl Excepts {
         })
     }
 
-    /// What a part in an except stands for, within brackets.
+    /// What a part in an except comes to, within brackets.
     fn followed_text(
         &mut self,
         alloc: Global,
@@ -235,7 +235,7 @@ impl Excepts {
         }
     }
 
-    /// Begins what a reference stands for, within brackets. So a choice stands for one pattern.
+    /// Begins what a reference comes to, within brackets. So a choice is one pattern.
     fn open_bracketed(
         &mut self,
         alloc: Global,
@@ -249,7 +249,7 @@ impl Excepts {
         self.open(alloc, units, plan, trail, reference)
     }
 
-    /// Begins what a reference stands for: a choice, or a member of the one around it.
+    /// Begins what a reference comes to: a choice, or a member of the one around it.
     fn open(
         &mut self,
         alloc: Global,

@@ -13,7 +13,7 @@ pub struct Piece {
     pub from: usize,
     /// The number of the file.
     pub file: usize,
-    /// The byte of the file's text: the first one of the piece, or where that stands for which the bytes were made.
+    /// The byte of the file's text: the first one of the piece, or that for which the bytes were made.
     pub at: usize,
     /// Whether the bytes are those of the file, and not made for what stands at `at`.
     pub is_source: bool,
@@ -50,7 +50,7 @@ pub struct Lifted {
     pub modules: Vec<LiftedModule>,
     /// The stems that were made: what stands before the first dot of a name that no file writes.
     pub(crate) made_stems: BTreeSet<String>,
-    /// What stands behind the first dot of the name of a start.
+    /// What follows the first dot of the name of a start.
     pub(crate) start: String,
 }
 

@@ -137,7 +137,7 @@ fn add_bringing_modules(
 /// Files that no root reaches become no modules. A file of the roots' scope keeps its name, and its
 /// text, but for the literals of its includes and for what is lifted. Refused with the first fault,
 /// and with `Grown` where the modules of the files' places would have over `MAX_GROWTH` more bytes
-/// than the files, so that memory and time grow with these; `Memory` stands for want of memory alone.
+/// than the files, so that memory and time grow with these; `Memory` comes only where memory runs out.
 pub fn lift(alloc: Global, files: &[Lifting<'_>], roots: &[usize]) -> Result<Lifted, LiftFault>
     ensures order { IfOk result (λ l. AreRising l.modules.items) }
     ensures free { IfOk result (λ l. AreFree files.now l.made_stems (string_bytes l.start)) }

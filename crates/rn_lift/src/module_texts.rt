@@ -308,7 +308,7 @@ impl<'u, 'a> PlaceView<'u, 'a> {
         }
     }
 
-    /// The reference that stands for an external or a nested grammar, of this file and this grammar:
+    /// The reference that replaces an external or a nested grammar, of this file and this grammar:
     /// to the start of the scope that it leads to.
     fn lifted_reference(
         &self,

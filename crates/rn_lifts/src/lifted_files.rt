@@ -1,4 +1,4 @@
-// Files of a row, and the modules that they become. A file stands behind a line `@NAME`; the first one is the root.
+// Files of a row, and the modules that they become. A file follows a line `@NAME`; the first one is the root.
 use crate::outlines::outline_of;
 use rn_lift::{Lifted, lift};
 use rn_outline::{Outline, PartKind};
@@ -96,7 +96,7 @@ fn answer(rt: &(impl Abort + AllocGlobal), row: &str) -> String {
 }
 
 /// The files of each row become the modules that are wanted, or have that fault. Rows are parted by `====`, and what is wanted
-/// stands behind `=>`.
+/// follows `=>`.
 pub fn each_lifted(rt: &(impl Abort + AllocGlobal), rows: &str) {
     for row in rows.split("\n====\n") {
         let (given, wanted) = row.split_once("\n=>\n").unwrap_or((row, ""));

@@ -78,7 +78,7 @@ fn part_words(alloc: Global, text: &str, part: &Part) -> Result<String, AllocErr
     format!(in alloc; "{grammar}{in_except}{kind}({at}){behind};")
 }
 
-// An outline in words: its shape, how many declarations it has, what stands behind them, and its parts.
+// An outline in words: its shape, how many declarations it has, what follows them, and its parts.
 fn outline_words(alloc: Global, text: &str, outline: &Outline) -> Result<String, AllocError> {
     let shape = outline.shape;
     let count = outline.declarations.len();

@@ -13,7 +13,7 @@ use crate::module_names::is_module_name;
 /// What a header line says.
 #[derive(Clone, Copy)]
 pub enum HeaderLine<'a> {
-    /// `module NAME REV LEN SHA256`: a text stands behind the line.
+    /// `module NAME REV LEN SHA256`: a text follows the line.
     Text {
         /// The module's name.
         name: &'a str,
@@ -24,7 +24,7 @@ pub enum HeaderLine<'a> {
         /// The 64 digits of the text's digest.
         digest: &'a [u8],
     },
-    /// `withdrawn NAME REV`: nothing stands behind the line.
+    /// `withdrawn NAME REV`: nothing follows the line.
     Withdrawal {
         /// The module's name.
         name: &'a str,

@@ -62,19 +62,19 @@ pub fn sets_have_one_bundle()
     ensures one { (a b : List ℕ) (s : List Member) → IsBundle a s → IsBundle b s → a ≡ b }
 {}
 
-/// Bytes are the bundle of a set, or they have a fault, want of memory aside.
+/// Bytes are the bundle of a set, or they have a fault, unless memory runs out.
 pub fn bytes_are_a_bundle_or_have_a_fault()
     ensures { (bytes : List ℕ) → ((s : List Member) × IsBundle bytes s)
         ⊎ ((fault : BundleFault) × HasBundleFault bytes fault × (fault ≢ Memory)) }
 {}
 
-/// Bytes have at most one fault, want of memory aside.
+/// Bytes have at most one fault, unless memory runs out.
 pub fn bytes_have_one_fault()
     ensures { (bytes : List ℕ) (fault other : BundleFault) → HasBundleFault bytes fault
         → HasBundleFault bytes other → fault ≢ Memory → other ≢ Memory → fault ≡ other }
 {}
 
-/// A fault stands behind the longest front of good entries: those of any front are the first of these.
+/// A fault follows the longest front of good entries: those of any front are the first of these.
 pub fn faults_stand_behind_the_longest_front()
     ensures { (bytes : List ℕ) (first second : Bool) (ms ns : List Member) (left rest : List ℕ)
         (fault : BundleFault)
@@ -83,7 +83,7 @@ pub fn faults_stand_behind_the_longest_front()
         → (more : List Member) × (ms ≡ ns ++ more) }
 {}
 
-/// A set's bundle has no fault but want of memory.
+/// A set's bundle has no fault unless memory runs out.
 pub fn bundles_have_no_fault()
     ensures { (bytes : List ℕ) (s : List Member) (fault : BundleFault) → IsBundle bytes s
         → HasBundleFault bytes fault → fault ≡ Memory }

@@ -10,7 +10,7 @@ use crate::skips::{literal_at, plain_assign, word};
 use rn_text::Token;
 use std::alloc::Global;
 
-/// The declarations at the front, and what stands behind them.
+/// The declarations at the front, and what follows them.
 pub(crate) fn declarations(
     alloc: Global,
     tokens: &[Token<'_>],
@@ -27,7 +27,7 @@ pub(crate) fn declarations(
     Ok((declarations, end))
 }
 
-/// What the declaration that begins here binds, and what stands behind its keywords.
+/// What the declaration that begins here binds, and what follows its keywords.
 fn head(tokens: &[Token<'_>], at: usize) -> Option<(DeclarationKind, usize)>
     ensures { IfSome result (λ r. Advanced at r.1 (length tokens.now)) }
 {
@@ -42,7 +42,7 @@ fn head(tokens: &[Token<'_>], at: usize) -> Option<(DeclarationKind, usize)>
     }
 }
 
-/// A declaration that begins at one token, with what stands behind its keywords.
+/// A declaration that begins at one token, with what follows its keywords.
 fn declaration(
     alloc: Global,
     tokens: &[Token<'_>],
@@ -84,7 +84,7 @@ fn prefix(
     Ok((Some(span(tokens, at, end)), end))
 }
 
-/// The URI of a declaration, a literal or, for a namespace, `inherit`; and what stands behind it.
+/// The URI of a declaration, a literal or, for a namespace, `inherit`; and what follows it.
 fn uri(
     alloc: Global,
     tokens: &[Token<'_>],

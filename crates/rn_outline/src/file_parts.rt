@@ -84,7 +84,7 @@ pub struct Part {
     /// The grammar that it belongs to: 0 is the file's own, and each nested one has a number of its
     /// own.
     pub grammar: usize,
-    /// Whether it is excepted from data: it stands behind a `-`, with no more than parentheses and
+    /// Whether it is excepted from data: it follows a `-`, with no more than parentheses and
     /// operators between.
     pub in_except: bool,
     /// What kind of part it is, with the bytes of what it is made of.
@@ -167,7 +167,7 @@ pub struct Outline {
     pub shape: Shape,
     /// The declarations, in the order of the text.
     pub declarations: Vec<OutlineDeclaration>,
-    /// What stands behind the declarations.
+    /// What follows the declarations.
     pub body: Span,
     /// The parts of the body, in the order in which they begin.
     pub parts: Vec<Part>,
@@ -184,7 +184,7 @@ impl Outline {
     }
 
     /// The numbers of the parts that name another file, externals and includes, in the order of the
-    /// text. Refused for want of memory alone.
+    /// text. Refused only where memory runs out.
     pub fn links(&self, alloc: Global) -> Result<Vec<usize>, AllocError>
         ensures { IfOk result (λ v. v.items ≡ link_numbers self.now.parts.items) }
     {
@@ -203,7 +203,7 @@ impl Outline {
 }
 
 impl Part {
-    /// The bytes that are replaced if something else is to stand for the part: of a definition the
+    /// The bytes that are replaced if something else replaces the part: of a definition the
     /// name that it defines, of an include its literal; else the whole part.
     pub fn mark(&self) -> Span
         ensures { result ≡ mark self.now }

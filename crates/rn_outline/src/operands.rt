@@ -1,4 +1,4 @@
-// Operands of patterns, and what stands behind them (compact syntax, section 2, pattern).
+// Operands of patterns, and what follows them (compact syntax, section 2, pattern).
 ghost use Rattle.std.specs.Prelude.{◌≡◌, ◌<◌, ◌≤◌, length, IfOk};
 ghost use Rattle.rn_text.specs.inside.Reading.{GoesPast, MayGoPast, Passed};
 
@@ -80,7 +80,7 @@ fn content(reader: &mut Reader, inside: usize) -> Result<usize, Stop>
     Ok(inside)
 }
 
-/// What may stand behind the name of a datatype: a literal makes it a value; parameters and an except may follow.
+/// What may follow the name of a datatype: a literal makes it a value; parameters and an except may follow.
 fn datatype(reader: &mut Reader, tokens: &[Token<'_>], at: usize) -> Result<usize, Stop>
     requires { at ≤ length tokens.now }
     ensures { MayGoPast at (length tokens.now) result }
@@ -98,7 +98,7 @@ fn datatype(reader: &mut Reader, tokens: &[Token<'_>], at: usize) -> Result<usiz
     }
 }
 
-/// What stands behind the `-` of an except, if one comes.
+/// What follows the `-` of an except, if one comes.
 fn except(reader: &mut Reader, tokens: &[Token<'_>], at: usize) -> usize
     requires { at ≤ length tokens.now }
     ensures { Passed at result (length tokens.now) }
@@ -173,7 +173,7 @@ fn grammar(reader: &mut Reader, tokens: &[Token<'_>], at: usize) -> Result<usize
     Ok(inside)
 }
 
-/// Reads what stands behind an operand.
+/// Reads what follows an operand.
 pub(crate) fn behind_operand(
     reader: &mut Reader,
     tokens: &[Token<'_>],

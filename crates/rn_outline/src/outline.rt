@@ -39,7 +39,7 @@ fn bracket_too_deep(tokens: &[Token<'_>]) -> Option<usize> {
     None
 }
 
-/// What stands behind the annotations that come.
+/// What follows the annotations that come.
 fn skip_annotations(tokens: &[Token<'_>], mut at: usize) -> Result<usize, Stop>
     requires { at ≤ length tokens.now }
     ensures { MayGoPast at (length tokens.now) result }
@@ -275,7 +275,7 @@ fn read(alloc: Global, text: &str, tokens: &[Token<'_>]) -> Result<Outline, Stop
 /// chain of two operators, a second postfix, unbound prefixes.
 ///
 /// Refused, in this order: brackets that nest too deep, `Deep`; tokens that are no file, `Syntax`, at the first token
-/// that can't stand where it stands. `Memory` stands for want of memory alone.
+/// that can't be where it is. `Memory` comes only where memory runs out.
 pub fn read_outline(
     alloc: Global,
     text: &str,

@@ -13,7 +13,7 @@ pub enum OutlineFault {
         /// How many bytes of the text stand before the bracket.
         at: usize,
     },
-    /// The first token that can't stand where it stands; where the tokens end too early, the end of the last one.
+    /// The first token that can't be where it is; where the tokens end too early, the end of the last one.
     #[error("no file goes on like this at {at}")]
     Syntax {
         /// How many bytes of the text stand before the place of the fault.

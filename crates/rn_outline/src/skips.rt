@@ -9,7 +9,7 @@ use crate::signs::{Sign, Word, sign_at, span};
 use rn_text::{Kind, Token, literal};
 use std::alloc::Global;
 
-/// What stands behind a `[`, up to its `]`.
+/// What follows a `[`, up to its `]`.
 fn closed_brackets(tokens: &[Token<'_>], mut at: usize) -> Result<usize, Stop>
     requires { at ≤ length tokens.now }
     ensures { GoesPast at (length tokens.now) result }
@@ -35,7 +35,7 @@ fn closed_brackets(tokens: &[Token<'_>], mut at: usize) -> Result<usize, Stop>
     }
 }
 
-/// What stands behind `[ .. ]` (compact syntax, section 2, annotations).
+/// What follows `[ .. ]` (compact syntax, section 2, annotations).
 pub(crate) fn annotation(tokens: &[Token<'_>], at: usize) -> Result<usize, Stop>
     requires { at ≤ length tokens.now }
     ensures { GoesPast at (length tokens.now) result }
@@ -46,7 +46,7 @@ pub(crate) fn annotation(tokens: &[Token<'_>], at: usize) -> Result<usize, Stop>
     }
 }
 
-/// What stands behind an annotation, if one comes.
+/// What follows an annotation, if one comes.
 pub(crate) fn skip_annotation(tokens: &[Token<'_>], at: usize) -> Result<usize, Stop>
     requires { at ≤ length tokens.now }
     ensures { MayGoPast at (length tokens.now) result }
@@ -57,7 +57,7 @@ pub(crate) fn skip_annotation(tokens: &[Token<'_>], at: usize) -> Result<usize, 
     }
 }
 
-/// What stands behind a name and `[ .. ]`, behind `>>`.
+/// What follows a name and `[ .. ]`, behind `>>`.
 pub(crate) fn follow(tokens: &[Token<'_>], at: usize) -> Result<usize, Stop>
     requires { at ≤ length tokens.now }
     ensures { GoesPast at (length tokens.now) result }
@@ -68,7 +68,7 @@ pub(crate) fn follow(tokens: &[Token<'_>], at: usize) -> Result<usize, Stop>
     }
 }
 
-/// What stands behind the `{` of an element or an attribute, whose name class comes (compact syntax, section 2,
+/// What follows the `{` of an element or an attribute, whose name class comes (compact syntax, section 2,
 /// nameClass).
 pub(crate) fn name_class(tokens: &[Token<'_>], mut at: usize) -> Result<usize, Stop>
     requires { at ≤ length tokens.now }
@@ -112,7 +112,7 @@ fn is_right_brace(tokens: &[Token<'_>], at: usize) -> bool
     }
 }
 
-/// What stands behind a word, `=` and a literal.
+/// What follows a word, `=` and a literal.
 fn param(tokens: &[Token<'_>], at: usize) -> Result<usize, Stop>
     requires { at ≤ length tokens.now }
     ensures { GoesPast at (length tokens.now) result }
@@ -123,7 +123,7 @@ fn param(tokens: &[Token<'_>], at: usize) -> Result<usize, Stop>
     segments(tokens, value)
 }
 
-/// What stands behind the parameters of a datatype, behind their `{`.
+/// What follows the parameters of a datatype, behind their `{`.
 pub(crate) fn params(tokens: &[Token<'_>], mut at: usize) -> Result<usize, Stop>
     requires { at ≤ length tokens.now }
     ensures { GoesPast at (length tokens.now) result }
@@ -134,7 +134,7 @@ pub(crate) fn params(tokens: &[Token<'_>], mut at: usize) -> Result<usize, Stop>
     Ok(at + 1)
 }
 
-/// What stands behind a name or a keyword.
+/// What follows a name or a keyword.
 pub(crate) fn word(tokens: &[Token<'_>], at: usize) -> Result<usize, Stop>
     requires { at ≤ length tokens.now }
     ensures { GoesPast at (length tokens.now) result }
@@ -145,7 +145,7 @@ pub(crate) fn word(tokens: &[Token<'_>], at: usize) -> Result<usize, Stop>
     }
 }
 
-/// What stands behind a name that is no keyword.
+/// What follows a name that is no keyword.
 pub(crate) fn ident(tokens: &[Token<'_>], at: usize) -> Result<usize, Stop>
     requires { at ≤ length tokens.now }
     ensures { GoesPast at (length tokens.now) result }
@@ -156,7 +156,7 @@ pub(crate) fn ident(tokens: &[Token<'_>], at: usize) -> Result<usize, Stop>
     }
 }
 
-/// What stands behind `=`.
+/// What follows `=`.
 pub(crate) fn plain_assign(tokens: &[Token<'_>], at: usize) -> Result<usize, Stop>
     requires { at ≤ length tokens.now }
     ensures { GoesPast at (length tokens.now) result }
@@ -170,7 +170,7 @@ pub(crate) fn plain_assign(tokens: &[Token<'_>], at: usize) -> Result<usize, Sto
     }
 }
 
-/// What stands behind `{`.
+/// What follows `{`.
 pub(crate) fn left_brace(tokens: &[Token<'_>], at: usize) -> Result<usize, Stop>
     requires { at ≤ length tokens.now }
     ensures { GoesPast at (length tokens.now) result }
@@ -181,7 +181,7 @@ pub(crate) fn left_brace(tokens: &[Token<'_>], at: usize) -> Result<usize, Stop>
     }
 }
 
-/// What stands behind a segment.
+/// What follows a segment.
 fn segment(tokens: &[Token<'_>], at: usize) -> Result<usize, Stop>
     requires { at ≤ length tokens.now }
     ensures { GoesPast at (length tokens.now) result }
@@ -192,7 +192,7 @@ fn segment(tokens: &[Token<'_>], at: usize) -> Result<usize, Stop>
     }
 }
 
-/// What stands behind a literal: segments with `~` between each two (compact syntax, section 2, literal).
+/// What follows a literal: segments with `~` between each two (compact syntax, section 2, literal).
 pub(crate) fn segments(tokens: &[Token<'_>], at: usize) -> Result<usize, Stop>
     requires { at ≤ length tokens.now }
     ensures { GoesPast at (length tokens.now) result }
@@ -204,7 +204,7 @@ pub(crate) fn segments(tokens: &[Token<'_>], at: usize) -> Result<usize, Stop>
     Ok(end)
 }
 
-/// `[ "inherit" "=" word ]`: the word, and what stands behind it.
+/// `[ "inherit" "=" word ]`: the word, and what follows it.
 pub(crate) fn inherit(tokens: &[Token<'_>], at: usize) -> Result<(Option<Span>, usize), Stop>
     requires { at ≤ length tokens.now }
     ensures { IfOk result (λ r. Passed at r.1 (length tokens.now)) }
@@ -231,7 +231,7 @@ fn joined_segments(alloc: Global, tokens: &[Token<'_>]) -> Result<String, Stop> 
     Ok(text)
 }
 
-/// A literal: its text, its bytes, and what stands behind it.
+/// A literal: its text, its bytes, and what follows it.
 pub(crate) fn literal_at(
     alloc: Global,
     tokens: &[Token<'_>],

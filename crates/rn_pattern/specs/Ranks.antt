@@ -18,11 +18,6 @@ pub record IsRanking (rows : List (List ℕ)) (ranks : List ℕ) : Type 0 where
   pub below : (x : ℕ) → x < length rows → rank_of ranks x < length rows
   pub falls : (x y : ℕ) → x < length rows → Contains (row rows x) y → rank_of ranks y < rank_of ranks x
 
--- ranks by which each edge leads to a lower one, or a node on a loop
-abbrev pub IsOrdered : List (List ℕ) → Order → Type 0
-IsOrdered rows (Ranked ranks) = IsRanking rows ranks.items
-IsOrdered rows (Looped x) = Leads rows x x
-
 -- no node comes back to itself
 abbrev pub HasNoLoop : List (List ℕ) → Type 0
 HasNoLoop rows = (x : ℕ) → ¬ Leads rows x x
@@ -31,3 +26,8 @@ HasNoLoop rows = (x : ℕ) → ¬ Leads rows x x
 pub record IsFirstLoop (rows : List (List ℕ)) (x : ℕ) : Type 0 where
   pub holds : Leads rows x x
   pub least : (y : ℕ) → y < x → ¬ Leads rows y y
+
+-- ranks by which each edge leads to a lower one, or the least node that comes back to itself
+abbrev pub IsOrdered : List (List ℕ) → Order → Type 0
+IsOrdered rows (Ranked ranks) = IsRanking rows ranks.items
+IsOrdered rows (Looped x) = IsFirstLoop rows x

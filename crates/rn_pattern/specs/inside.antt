@@ -8,7 +8,6 @@ pub mod Compared
 pub mod Lists
 pub mod Reduced
 pub mod NameParts
-pub mod Forward
 pub mod Hashing
 pub mod Count
 pub mod Marking

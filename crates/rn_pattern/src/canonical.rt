@@ -31,7 +31,7 @@ pub enum Reduced {
 }
 
 /// A datatype with its parameters in their order, without an except that is `notAllowed` (4.20). Nothing is refused but
-/// for want of memory.
+/// where memory runs out.
 pub fn datum(
     nodes: &NodeTable<'_>,
     alloc: Global,
@@ -248,7 +248,7 @@ fn sort_without_repeats(
     Ok(members)
 }
 
-/// A list of the members; the member itself if there is one, and what an empty list stands for if there is none.
+/// A list of the members; the member itself if there is one, and what an empty list comes to if there is none.
 fn list_of_members(connector: Connector, members: Vec<NodeId>) -> Reduced
     ensures tree { (ts : List Tree)
         → reduced_tree ts result ≡ listed connector (map (tree_at ts) members.items) }

@@ -20,7 +20,7 @@ pub enum Connector {
 }
 
 impl Connector {
-    /// The members that stand for the node in a list of this kind, if it doesn't stand for itself: those of a list of
+    /// The members that replace the node in a list of this kind, if it isn't kept itself: those of a list of
     /// the same kind; none of the pattern that such a list without members is (4.20, 4.21).
     pub fn members_of(self, node: &Node<NodeId>) -> Option<&[NodeId]>
         ensures tree { (at : NodeId → Tree) → MatchOption result

@@ -151,7 +151,7 @@ pub fn datatype_libraries_answer()
     ensures value_itself_apart { Accepts (a_holding one) spellings (a_of (codes "1")) }
     // a text that another library takes as equal, and this one does not
     ensures value_apart { Rejects (a_holding one) spellings (a_of (codes "01")) }
-    // a text that stands for another number
+    // a text of another number
     ensures value_other { Rejects (a_holding one) numbers (a_of (codes "0")) }
     // the text as it is, white space with it: the table does not have it
     ensures value_padded { Rejects (a_holding one) numbers (a_of (codes " 1")) }

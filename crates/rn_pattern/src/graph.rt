@@ -34,8 +34,8 @@ fn mark_all(seen: &mut Vec<bool>, order: &mut Vec<usize>, row: &[usize]) -> Resu
     Ok(())
 }
 
-/// For each node, whether it is one of the first or is reached from them. The only error is want of memory; the edges
-/// and the first nodes are what they were.
+/// For each node, whether it is one of the first or is reached from them. After an error the edges and
+/// the first nodes are what they were.
 pub fn reached_nodes(alloc: Global, edges: &Rows, first: &[usize]) -> Result<Vec<bool>, AllocError>
     requires graph { IsGraph (rows_of edges.now) }
     requires first_within { AllBelow (length (rows_of edges.now)) first.now }
@@ -55,8 +55,8 @@ pub fn reached_nodes(alloc: Global, edges: &Rows, first: &[usize]) -> Result<Vec
     Ok(seen)
 }
 
-/// The edges from marked nodes alone: the rows of the others are empty. The only error is want of memory; the edges are
-/// what they were.
+/// The edges from marked nodes alone: the rows of the others are empty. After an error the edges are what
+/// they were.
 pub fn marked_rows(alloc: Global, edges: &Rows, marks: &[bool]) -> Result<Rows, AllocError>
     requires { length marks.now ≡ length (rows_of edges.now) }
     ensures size { IfOk result (λ rows. length (rows_of rows) ≡ length (rows_of edges.now)) }

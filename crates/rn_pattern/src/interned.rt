@@ -43,7 +43,7 @@ impl Interned {
         }
     }
 
-    /// How many ids the store has. Two ids that stand for equal patterns are equal.
+    /// How many ids the store has. Two ids of equal patterns are equal.
     pub fn nodes(&self) -> usize
         ensures count { result ≡ ⟦<Interned as Patterns>⟧.size self.now }
         ensures distinct { (i j : NodeId) → let ids = ⟦<Interned as Patterns>⟧ in

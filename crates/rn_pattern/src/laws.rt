@@ -91,7 +91,7 @@ pub fn sorted_lists_keep_their_members()
         → IsStrictlySortedBy name_cmp (sorted_once name_cmp cs) }
 {}
 
-/// The ids of a store stand for canonical patterns alone: so it begins, and so each constructor leaves it, whether it
+/// The ids of a store name canonical patterns alone: so it begins, and so each constructor leaves it, whether it
 /// answers or is refused memory. `IsMade` has what each constructor makes of ids that the store knows.
 pub fn stores_stay_canonical()
     ensures interned { let ids = ⟦<Interned as Patterns>⟧ in

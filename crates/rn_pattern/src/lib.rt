@@ -12,6 +12,8 @@
 //! [`Rows`]; those of references, everywhere and outside elements, are [`ReferenceRows`].
 //!
 //! [`boxes`] puts a value in a box of its own, or where it can be shared.
+//!
+//! Where a call answers `AllocError`, memory ran out; it refuses nothing else.
 #![tactic(auto)]
 
 pub mod boxes;

@@ -107,7 +107,7 @@ fn closed_loop(
 
 /// A loop through a node of as few nodes as there is one of, or none where the node doesn't come back to itself: the
 /// node first, each with an edge to the next one, and the last one with an edge to the first. Work and memory grow with
-/// the nodes and edges. The only error is want of memory; the edges are what they were.
+/// the nodes and edges. After an error the edges are what they were.
 pub fn shortest_loop(
     alloc: Global,
     edges: &Rows,

@@ -15,8 +15,8 @@ use std::alloc::AllocError;
 
 /// A store of canonical patterns, named by ids. Each constructor takes ids of this store and answers the id of the
 /// canonical form of its node, which matches what the node matches, in every schema (RELAX NG 2001, 4.20, 4.21, 6.2).
-/// Earlier ids keep their patterns. The only error is want of memory; a refused call changes no id's pattern and
-/// leaves the number of ids. No limit bounds how deep patterns nest. The constructors of [`Interned`](crate::Interned)
+/// Earlier ids keep their patterns. A refused call changes no id's pattern and leaves the
+/// number of ids. No limit bounds how deep patterns nest. The constructors of [`Interned`](crate::Interned)
 /// nest no call for each nested pattern; those of [`Plain`](crate::Plain) do, for members before the last of a list.
 pub trait Patterns {
     type Id: Copy + Eq + Drop;
@@ -24,7 +24,7 @@ pub trait Patterns {
     // Whether the id is one of this store's.
     ghost knows: { Self → Self.Id → Bool };
 
-    // The pattern that the id stands for.
+    // The pattern that the id names.
     ghost tree_of: { Self → Self.Id → Tree };
 
     // How many ids the store has.
@@ -154,6 +154,6 @@ pub trait Patterns {
     // The size is the number of the ids that the store knows.
     ghost counted: { (s : Self) → HasCount (knows s) (size s) };
 
-    // Equal ids stand for equal patterns, in every store of the type.
+    // Equal ids name equal patterns, in every store of the type.
     ghost same: { (s : Self) (i j : Self.Id) → IsTrue (Self.Id.eq i j) → tree_of s i ≡ tree_of s j };
 }

@@ -31,7 +31,7 @@ impl Plain {
         }
     }
 
-    /// How many ids the store has. Two ids that stand for equal patterns may differ.
+    /// How many ids the store has. Two ids of equal patterns may differ.
     pub fn nodes(&self) -> usize
         ensures { result ≡ ⟦<Plain as Patterns>⟧.size self.now }
     {

@@ -49,7 +49,7 @@ impl NodeReferences {
     }
 
     /// Adds a reference to the node with a number, where `reach` is the narrowest reach that takes the reference in.
-    /// The only error is want of memory.
+    ///
     #[inline(always)]
     pub fn add(&mut self, number: usize, reach: Reach) -> Result<(), AllocError>
         ensures everywhere { OnOk result (self.new.everywhere.items
@@ -78,7 +78,7 @@ pub struct ReferenceRows {
 }
 
 impl ReferenceRows {
-    /// No rows yet, with the memory for so many of one reference each. The only error is want of memory.
+    /// No rows yet, with the memory for so many of one reference each.
     pub fn with_capacity(alloc: Global, count: usize) -> Result<ReferenceRows, AllocError>
         ensures everywhere { IfOk result (λ rows. rows_of rows.everywhere ≡ []) }
         ensures outside { IfOk result (λ rows. rows_of rows.outside ≡ []) }
@@ -89,7 +89,7 @@ impl ReferenceRows {
         })
     }
 
-    /// Adds the references of the next node. The only error is want of memory.
+    /// Adds the references of the next node.
     #[inline(always)]
     pub fn push_row(&mut self, references: &NodeReferences) -> Result<(), AllocError>
         ensures everywhere { OnOk result (rows_of self.new.everywhere

@@ -31,7 +31,7 @@ impl Rows {
         }
     }
 
-    /// No rows yet, with the memory for so many of one node each. The only error is want of memory.
+    /// No rows yet, with the memory for so many of one node each.
     pub fn with_capacity(alloc: Global, count: usize) -> Result<Rows, AllocError>
         ensures rows { IfOk result (λ rows. rows_of rows ≡ []) }
         ensures open { IfOk result (λ rows. open_row rows ≡ []) }
@@ -115,7 +115,7 @@ impl Rows {
         Ok(())
     }
 
-    /// Adds a node to the row that has not ended. The only error is want of memory; it leaves all as it was.
+    /// Adds a node to the row that has not ended. An error leaves all as it was.
     #[inline(always)]
     pub fn add(&mut self, node: usize) -> Result<(), AllocError>
         ensures rows { rows_of self.new ≡ rows_of self.old }
@@ -126,8 +126,7 @@ impl Rows {
         Ok(())
     }
 
-    /// Ends the row of the nodes that were added since the last end. The only error is want of memory; it leaves all as
-    /// it was.
+    /// Ends the row of the nodes that were added since the last end. An error leaves all as it was.
     #[inline(always)]
     pub fn end_row(&mut self) -> Result<(), AllocError>
         ensures rows { OnOk result (rows_of self.new ≡ rows_of self.old ++ open_row self.old ∷ []) }

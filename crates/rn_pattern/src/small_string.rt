@@ -88,7 +88,7 @@ impl Model for SmallString {
 }
 
 impl SmallString {
-    /// A copy of the text. One of up to 22 bytes asks for no memory. The only error is want of memory.
+    /// A copy of the text. One of up to 22 bytes asks for no memory.
     #[inline(always)]
     pub fn from_str(alloc: Global, text: &str) -> Result<SmallString, AllocError>
         ensures is { IfOk result (λ s. s ≡ text.now) }
@@ -114,7 +114,7 @@ impl SmallString {
         }
     }
 
-    /// A copy of the text, which shares the memory of a long one. The only error is want of memory.
+    /// A copy of the text, which shares the memory of a long one.
     pub fn try_clone(&self) -> Result<SmallString, AllocError>
         ensures { IfOk result (λ s. s ≡ self.now) }
     {

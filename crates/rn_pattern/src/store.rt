@@ -35,8 +35,8 @@ pub trait NodeStore {
         ensures text { IfOk result (λ text. rc_str_bytes text ≡ library.now) }
         ensures kept { trees self.new ≡ trees self.old };
 
-    /// The id of the node, which is added, or of an equal one. The only error is want of memory; the ids are then what
-    /// they were.
+    /// The id of the node, which is added, or of an equal one. After an error the ids are what they
+    /// were.
     fn add(&mut self, node: Node<NodeId>) -> Result<NodeId, AllocError>
         requires { NamesBelow (length (trees self.old)) node }
         ensures made { IfOk result (StandsFor (knows (trees self.new)) (tree_at (trees self.new))

@@ -26,7 +26,7 @@ pub enum LiftFaultKind {
     /// `parent` outside a grammar that is in another one (RELAX NG 2001, 4.18).
     #[error("no grammar is around this one")]
     NoParent,
-    /// A reference in an except stands for more than data, values and choices of them (RELAX NG 2001, 7.1.4), or
+    /// A reference in an except comes to more than data, values and choices of them (RELAX NG 2001, 7.1.4), or
     /// comes back to itself there.
     #[error("what this stands for can't be excepted")]
     ExceptReference,
@@ -38,10 +38,10 @@ pub enum LiftFaultKind {
     #[error("no file is given for this")]
     NoFile,
     /// A reference to a name without a definition (RELAX NG 2001, 4.18): one in an except, or in a definition that
-    /// one in an except stands for. The place is that of the reference to this name.
+    /// one in an except comes to. The place is that of the reference to this name.
     #[error("nothing defines this")]
     Undefined,
-    /// The texts that references in excepts stand for would have more bytes than `MAX_EXCEPTS` of rn_lift.
+    /// The texts that references in excepts come to would have more bytes than `MAX_EXCEPTS` of rn_lift.
     #[error("too long definitions are excepted")]
     Long,
     /// The files would make more than [`MAX_PLACES`] modules.

@@ -1,4 +1,4 @@
-// Namespaces that are handed on, by numbers.
+// Namespaces that are inherited, by numbers.
 
 use crate::given::Given;
 use crate::outline_bindings::Namespace;

@@ -44,7 +44,7 @@ impl Taken {
         }
     }
 
-    /// Takes a name: whether it was free. Refused only for want of memory.
+    /// Takes a name: whether it was free. Refused only where memory runs out.
     pub fn take(&mut self, alloc: Global, name: &str) -> Result<bool, AllocError>
         ensures free { IfOk result (λ r. r ≡ not (contains_text self.old.names name.now)) }
         ensures takes { OnOk result (Takes name.now self.old.names self.new.names) }
@@ -84,7 +84,7 @@ impl Taken {
     }
 }
 
-/// What stands behind the last slash.
+/// What follows the last slash.
 fn last_segment(path: &str) -> &str {
     match path.rsplit_once('/') {
         Some((_, last)) => last,
@@ -140,7 +140,7 @@ pub(crate) fn written_name<'a>(text: &'a str, kind: &PartKind) -> &'a str {
     }
 }
 
-/// A name of its own: a stem, a dot and a name. Refused only for want of memory.
+/// A name of its own: a stem, a dot and a name. Refused only where memory runs out.
 pub fn own_name(alloc: Global, stem: &str, name: &str) -> Result<String, AllocError>
     ensures { IfOk result (λ own. string_bytes own ≡ stem.now ++ (46 ∷ name.now)) }
 {
@@ -160,7 +160,7 @@ pub struct Names {
     is_free: Vec<bool>,
     /// The stems that were made.
     pub made_stems: BTreeSet<String>,
-    /// What stands behind the dot for a start: a name that nobody writes.
+    /// What follows the dot for a start: a name that nobody writes.
     pub start: String,
 }
 

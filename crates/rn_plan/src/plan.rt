@@ -26,7 +26,7 @@ pub const MAX_PLACES: usize = 1_024;
 ///
 /// Refused with the first fault: `NoFile`, `IncludedPattern`, `Prefix`, `NoParent`, `Many`, in the
 /// order of places and parts; `Outline` where a nested grammar's number is none of its outline;
-/// `Unsound` where a made name is not free. `Memory` stands for want of memory alone.
+/// `Unsound` where a made name is not free. `Memory` comes only where memory runs out.
 pub fn make_plan(alloc: Global, units: &Units<'_>, roots: &[usize]) -> Result<Plan, LiftFault>
     ensures free { IfOk result (λ p.
         AreFree (files_of units.now) p.names.made_stems (string_bytes p.names.start)) }

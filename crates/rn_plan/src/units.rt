@@ -48,7 +48,7 @@ pub struct Units<'a> {
 }
 
 impl<'a> Units<'a> {
-    /// The units of files. Refused for want of memory alone.
+    /// The units of files. Refused only where memory runs out.
     pub fn of(alloc: Global, files: &[Lifting<'a>]) -> Result<Self, AllocError>
         ensures files { IfOk result (λ u. files_of u ≡ files.now) }
         ensures targets { IfOk result (λ u. All HasTargets u.files.items) }

@@ -139,7 +139,7 @@ impl Prefixes {
         writer.put(type_name);
     }
 
-    /// Writes the declarations, one a line, with the URIs that the texts stand for.
+    /// Writes the declarations, one a line, with the URIs that the texts replace.
     pub(crate) fn write_declarations(&self, writer: &mut Writer, uris: &ShortUris)
         requires { IsTable (short_texts uris.now) }
         ensures { Writes (declaration_lines (long_uri (short_texts uris.now))

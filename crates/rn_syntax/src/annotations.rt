@@ -10,7 +10,7 @@ use crate::fault::Fault;
 use crate::terminals::{Terminal, next};
 use rn_text::Token;
 
-/// What stands behind a `[`, up to its `]`.
+/// What follows a `[`, up to its `]`.
 fn skip_closed(tokens: &[Token<'_>], mut at: usize) -> Result<usize, Fault>
     requires { at ≤ length tokens.now }
     ensures inside { GoesPast at (length tokens.now) result }

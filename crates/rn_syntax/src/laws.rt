@@ -18,7 +18,7 @@ pub fn one_module_tree()
     ensures { (ts : Tokens) (m n : Module) → HasTree ts m → HasTree ts n → m ≡ n }
 {}
 
-/// Tokens that are spelled as their kinds say have at most one fault, want of memory aside, and none where they are a
+/// Tokens that are spelled as their kinds say have at most one fault, unless memory runs out, and none where they are a
 /// module that has none. That they are no such module and have no fault either is impossible.
 pub fn tokens_are_a_module_or_have_one_fault()
     ensures never_neither { (xs : List source.Token) → AreSpelled xs

@@ -21,14 +21,14 @@ use rn_text::segments::is_verbatim;
 use std::alloc::{AllocError, Global};
 use std::borrow::CowStr;
 
-/// Whether a character between delimiters stands for itself wherever it comes.
+/// Whether a character between delimiters means itself wherever it comes.
 fn is_plain(c: char) -> bool
     ensures { result ≡ is_plain c }
 {
     c != '\\' && c != '\r'
 }
 
-/// What stands behind the plain characters at the front.
+/// What follows the plain characters at the front.
 fn behind_plain(text: &str) -> &str
     ensures { chars result.now ≡ after_run is_plain (chars text.now) }
 {

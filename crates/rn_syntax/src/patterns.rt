@@ -160,7 +160,7 @@ fn behind_postfix<'a>(
     repeated(alloc, postfix, primary, behind)
 }
 
-/// What stands behind the datatype of an operand: a literal makes it a value.
+/// What follows the datatype of an operand: a literal makes it a value.
 #[cycle(pattern)]
 fn behind_datatype<'a>(
     alloc: Global,
@@ -181,7 +181,7 @@ fn behind_datatype<'a>(
     behind_params(alloc, tokens, end, datatype, params)
 }
 
-/// What stands behind the parameters of an operand: `-` makes it an except.
+/// What follows the parameters of an operand: `-` makes it an except.
 #[cycle(pattern)]
 fn behind_params<'a>(
     alloc: Global,

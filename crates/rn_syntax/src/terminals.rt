@@ -101,7 +101,7 @@ pub(crate) fn prefix_name(text: &str) -> &str
     text.strip_suffix(behind).unwrap_or(text)
 }
 
-/// What stands behind the first character.
+/// What follows the first character.
 fn behind_first(text: &str) -> &str
     ensures { result.now ≡ encode_utf8_all (drop 1 (chars text.now)) }
 {
@@ -111,7 +111,7 @@ fn behind_first(text: &str) -> &str
     }
 }
 
-/// The local name of a name with a prefix: what stands behind the prefix and the colon.
+/// The local name of a name with a prefix: what follows the prefix and the colon.
 pub(crate) fn local_name(text: &str) -> &str
     ensures { result.now ≡ encode_utf8_all (drop 1 (after_run is_name_char (chars text.now))) }
 {
@@ -226,7 +226,7 @@ pub(crate) fn is_operator(tokens: &[Token<'_>], at: usize, wanted: Operator) -> 
     }
 }
 
-/// What stands behind `=`.
+/// What follows `=`.
 pub(crate) fn equals(tokens: &[Token<'_>], at: usize) -> Result<usize, Fault>
     requires { at ≤ length tokens.now }
     ensures inside { GoesPast at (length tokens.now) result }
@@ -252,7 +252,7 @@ pub(crate) fn assign(tokens: &[Token<'_>], at: usize) -> Result<Method, Fault>
     }
 }
 
-/// What stands behind `{`.
+/// What follows `{`.
 pub(crate) fn left_brace(tokens: &[Token<'_>], at: usize) -> Result<usize, Fault>
     requires { at ≤ length tokens.now }
     ensures inside { GoesPast at (length tokens.now) result }
@@ -264,7 +264,7 @@ pub(crate) fn left_brace(tokens: &[Token<'_>], at: usize) -> Result<usize, Fault
     }
 }
 
-/// What stands behind `}`.
+/// What follows `}`.
 pub(crate) fn right_brace(tokens: &[Token<'_>], at: usize) -> Result<usize, Fault>
     requires { at ≤ length tokens.now }
     ensures inside { GoesPast at (length tokens.now) result }
@@ -276,7 +276,7 @@ pub(crate) fn right_brace(tokens: &[Token<'_>], at: usize) -> Result<usize, Faul
     }
 }
 
-/// What stands behind `)`.
+/// What follows `)`.
 pub(crate) fn right_paren(tokens: &[Token<'_>], at: usize) -> Result<usize, Fault>
     requires { at ≤ length tokens.now }
     ensures inside { GoesPast at (length tokens.now) result }

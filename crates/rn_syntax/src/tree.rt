@@ -159,7 +159,7 @@ pub enum Item<'a> {
         name: &'a str,
         /// How it is combined with others of its name.
         method: Method,
-        /// The pattern that the name stands for.
+        /// The pattern that the name means.
         body: Box<Pat<'a>>,
     },
     /// The pattern that a document matches.

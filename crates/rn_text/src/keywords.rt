@@ -11,7 +11,7 @@ pub enum Keyword {
     Attribute,
     /// `default`, of the namespace that names without a prefix have.
     Default,
-    /// `datatypes`, of a prefix that stands for a datatype library.
+    /// `datatypes`, of a prefix bound to a datatype library.
     Datatypes,
     /// `div`, of components that stand together.
     Div,
@@ -31,7 +31,7 @@ pub enum Keyword {
     List,
     /// `mixed`, of a pattern with text between its elements.
     Mixed,
-    /// `namespace`, of a prefix that stands for a namespace.
+    /// `namespace`, of a prefix bound to a namespace.
     Namespace,
     /// `notAllowed`, the pattern that nothing matches.
     NotAllowed,

@@ -12,7 +12,7 @@ ghost use Rattle.rn_text.specs.Tokens.{HasFault, HasTokens, IsLexicalPlace, Lexe
 use crate::parts::{Kind, Part};
 use crate::source::TextFault;
 
-/// A source has tokens, or it has a fault, want of memory aside. It never has both, nor two faults.
+/// A source has tokens, or it has a fault, unless memory runs out. It never has both, nor two faults.
 pub fn sources_have_tokens_or_one_fault()
     ensures some { (src : List ℕ) → ((tokens : List Lexeme) × IsUtf8 src
         × HasTokens (chars src) tokens) ⊎

@@ -63,7 +63,7 @@ pub(crate) fn split_escape(text: &str) -> Option<(char, &str)>
     Some((c, after_char(rest, '}')?))
 }
 
-/// Whether each escape in the text is whole, and none stands for the delimiter.
+/// Whether each escape in the text is whole, and none means the delimiter.
 pub(crate) fn escapes_hold(text: &str, delimiter: char) -> bool
     ensures { result ≡ escapes_hold delimiter (chars text.now) }
 {
@@ -80,7 +80,7 @@ pub(crate) fn escapes_hold(text: &str, delimiter: char) -> bool
     true
 }
 
-/// Whether the text stands for itself between delimiters: it has no escape and no carriage return. It takes time linear
+/// Whether the text means itself between delimiters: it has no escape and no carriage return. It takes time linear
 /// in the text's bytes.
 pub fn is_verbatim(text: &str) -> bool
     ensures { result ≡ is_verbatim (chars text.now) }

@@ -42,7 +42,7 @@ fn is_name_with(rt: &(impl Abort + AllocGlobal), front: &str, number: u32) -> bo
     is_ncname(text.as_str())
 }
 
-/// The character of this number stands behind `front` in a name, or doesn't.
+/// The character of this number follows `front` in a name, or doesn't.
 fn stands(rt: &(impl Abort + AllocGlobal), front: &str, number: u32, wanted: bool) {
     assert!(rt;
         is_name_with(rt, front, number) == wanted,

@@ -1,5 +1,5 @@
 // Calls on texts, literals, sets and bundles, with their requests for memory refused in turn by what tests/out-of-memory loads
-// before the tests' program. A call that is refused answers want of memory, in its own type, and leaves what it was lent.
+// before the tests' program. A call that is refused answers that memory ran out, in its own type, and leaves what it was lent.
 // Without a refusal, as in the gate, it gives its own answer. Each test tells whether a call was refused.
 use crate::samples::{
     BEGIN, END, MAIN, ONE, TWICE_INCLUDED, answer_word, contribution, held, mark, written_set,

@@ -1,4 +1,4 @@
-// What tests are given: texts, contributions, sets and name classes. These are no tests, and end none: they answer `None` or want of memory.
+// What tests are given: texts, contributions, sets and name classes. These are no tests, and end none: they answer `None` or an error of memory.
 ghost use Rattle.std.specs.Prelude.{IsTrue};
 
 use rn_modset::{Contribution, ModuleSet};

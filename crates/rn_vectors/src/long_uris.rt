@@ -9,13 +9,13 @@ use rn_merge::refusal_line;
 use rn_modset::ModuleSet;
 use std::process::Abort;
 
-/// A text with sixty letters in the place of each `^`. So `^0123` has the most bytes of a URI that stands for itself.
+/// A text with sixty letters in the place of each `^`. So `^0123` has the most bytes of a URI that is kept.
 pub fn lengthened(rt: &(impl Abort + AllocGlobal), text: &str) -> String {
     let sixty = repeated(rt, "", "u", 60, "");
     expect_text(rt, text.replace(rt.alloc(), "^", sixty.as_str()))
 }
 
-/// A set prints a schema with short texts and without them, and the schema prints itself again, where `^` stands for sixty letters.
+/// A set prints a schema with short texts and without them, and the schema prints itself again, where `^` means sixty letters.
 pub fn prints(rt: &(impl Abort + AllocGlobal), given: &str, wanted: &str) {
     let given = lengthened(rt, given);
     let wanted = lengthened(rt, wanted);
@@ -210,7 +210,7 @@ fn special_uris_stay_what_they_are(rt: HostRuntime) {
     each_schema(&rt, &InEachWay, SPECIAL);
 }
 
-/// Long namespaces that are handed on to modules that are included.
+/// Long namespaces that are inherited to modules that are included.
 const INHERITED: &str = r#"@main
 namespace p = "^^b" namespace q = "^^a" include "lib" inherit = p include "lib" inherit = q start = element r { x }
 @lib
@@ -323,7 +323,7 @@ fn plain_refusal(rt: &(impl Abort + AllocGlobal), set: &ModuleSet) -> String {
     }
 }
 
-/// What refuses a set with short texts and without them, where `^` stands for sixty letters.
+/// What refuses a set with short texts and without them, where `^` means sixty letters.
 struct Refused;
 
 impl Subject for Refused {

@@ -1,5 +1,5 @@
 // Calls that make the schema of a grammar, with their requests for memory refused in turn by what tests/out-of-memory loads before
-// the tests' program. A call that is refused answers want of memory, in its own type, and a store keeps its patterns.
+// the tests' program. A call that is refused answers that memory ran out, in its own type, and a store keeps its patterns.
 // Without a refusal, as in the gate, it gives its own answer. Each test tells whether a call was refused.
 use crate::comparing::{holds, same_count};
 use crate::given_texts::written_set;

@@ -1,4 +1,4 @@
-// Sets that print nothing, and the first refusal that stands for each.
+// Sets that print nothing, and the first refusal of each.
 use crate::merges::Merge;
 use crate::tables::each_set;
 

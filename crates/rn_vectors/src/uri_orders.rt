@@ -1,4 +1,4 @@
-// The order of long URIs while short texts stand for them: tables of URIs in their order, and sets that are drawn.
+// The order of long URIs while short texts replace them: tables of URIs in their order, and sets that are drawn.
 use crate::comparing::{expect_text, holds};
 use crate::drawing::Draw;
 use crate::given_texts::{owned, push, written_set};
@@ -76,7 +76,7 @@ fn keep_their_order(rt: &(impl Abort + AllocGlobal), uris: &str) {
     prints(rt, given.as_str(), wanted.as_str());
 }
 
-/// URIs in their order, which is that of their bytes. `^` stands for sixty letters `u`, so `^0123` has 64 bytes, as many as a URI
+/// URIs in their order, which is that of their bytes. `^` means sixty letters `u`, so `^0123` has 64 bytes, as many as a URI
 /// has at most that isn't long.
 const ORDERS: &str = "^0123 < ^01234
 ^0123 < ^01234 < ^012345 < ^0123456 < ^01234567 < ^012345678

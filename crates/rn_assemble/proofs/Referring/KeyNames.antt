@@ -1,13 +1,19 @@
 -- The number of a name's key, by the place of the name.
-use Rattle.std.proofs.Common.{◌≡◌, ℕ, zero, suc, ◌+◌, ◌<◌, true, false, List, [], ◌∷◌, length, get_or, map, refl, sym, ap, ◌∙◌, arith, add-one}
-use Rattle.std.specs.Prelude.{bytes_eq, slice_get}
-use Rattle.std.specs.Option.{option_map_or}
+use Rattle.std.proofs.Common.{◌≡◌, ℕ, ◌+◌, ◌<◌, Bool, true, false, ◌||◌, Some, List, [], ◌∷◌, ◌++◌, length, get_or, map, refl, sym, ap, ◌∙◌, subst, arith, add-one, Less}
+use Rattle.std.specs.Prelude.{bytes_eq, position, Contains}
+use Rattle.std.specs.Borrow.{Bor}
+use Rattle.std.specs.List.{AllByRecursion, list_any}
+use Rattle.std.specs.List.Sorted.{IsStrictlySortedBy}
 use Rattle.std.proofs.lemmas.Bool.{false≢true}
+use Rattle.std.proofs.lemmas.Cmp.{nat_list_eq_equiv}
 use Rattle.std.proofs.lemmas.List.{get_or-map, length-map}
+use Rattle.std.proofs.lemmas.List.Quantifiers.{position-Some}
+use Rattle.std.proofs.lemmas.Map.Views.{list_any-from_Contains}
 use Rattle.std.proofs.lemmas.Slice.Eq.{bytes_eq-Decides}
-use Rattle.rn_text.specs.Texts.{Text}
+use Rattle.rn_text.specs.Texts.{Text, text_cmp}
 use Rattle.rn_assemble.specs.Components.{name_key}
-use Rattle.rn_assemble.specs.inside.Keyed.{HaveNames, IsNameNumber, name_at}
+use Rattle.rn_assemble.specs.inside.Keyed.{IsNameNumber, texts_of}
+use Rattle.rn_assemble.proofs.Referring.KeyNumbers.{not_itself}
 
 module _ {X : Type 0} (f : X → Text) where
   at_text : (xs : List X) (t : Text) (i : ℕ) → i < length xs → ((d : X) → f (get_or xs i d) ≡ t) → get_or (map f xs) i [] ≡ t
@@ -21,20 +27,33 @@ module _ {X : Type 0} (f : X → Text) where
     is = rw add-one (ap name_key (at_text xs t i l h));
   }
 
-pub number_of_name : (names : List Text) (x : Text) (n : ℕ) → 0 < n → n < length names + 1 → name_at names n ≡ x → IsNameNumber names x n
-number_of_name names x zero a w h = absurd (omega (arith, a))
-number_of_name names x (suc n) a w h = record {
-  above = a;
-  within = omega (arith, w);
-  is = ap name_key h;
-}
+abbrev has_text : Text → List (Bor (List ℕ)) → Bool
+has_text x ks = list_any (λ (k : Bor (List ℕ)). bytes_eq x k.now) ks
 
--- the name of the number at a place, where the name placed there is x
-pub name_placed : (names : List Text) (numbers : List ℕ) (placed : List Text) (x : Text) (i n : ℕ) → HaveNames names numbers placed → n ≡ get_or numbers i n
-    → option_map_or (bytes_eq x) (slice_get placed i) false ≡ true → name_at names n ≡ x
-name_placed names [] placed x i n have here is = absurd (false≢true (sym (ap (λ (ps : List Text). option_map_or (bytes_eq x) (slice_get ps i) false) have) ∙ is))
-name_placed names (m ∷ ms) placed x zero n have here is =
-    let same = sym (ap (λ (ps : List Text). option_map_or (bytes_eq x) (slice_get ps 0) false) have) ∙ is in
-    ap (name_at names) here ∙ sym ((bytes_eq-Decides x (name_at names m)).0 same)
-name_placed names (m ∷ ms) placed x (suc i) n have here is =
-    name_placed names ms (map (name_at names) ms) x i n refl here (sym (ap (λ (ps : List Text). option_map_or (bytes_eq x) (slice_get ps (suc i)) false) have) ∙ is)
+-- the number of a text that is found among those that are borrowed
+pub found_number : (x : Text) (ks : List (Bor (List ℕ))) (i : ℕ) → position (λ (k : Bor (List ℕ)). bytes_eq x k.now) ks ≡ Some i → IsNameNumber (texts_of ks) x (i + 1)
+found_number x [] i e = absurd cc
+found_number x (k ∷ ks) i e = number_of_place (λ (y : Bor (List ℕ)). y.now) (k ∷ ks) x i (position-Some (λ (y : Bor (List ℕ)). bytes_eq x y.now) (k ∷ ks) i k e).0
+    (λ d. sym ((bytes_eq-Decides x (get_or (k ∷ ks) i d).now).0 (position-Some (λ (y : Bor (List ℕ)). bytes_eq x y.now) (k ∷ ks) i d e).1))
+
+among_texts : (x : Text) (ks : List (Bor (List ℕ))) → list_any (bytes_eq x) (texts_of ks) ≡ has_text x ks
+among_texts x [] = refl
+among_texts x (k ∷ ks) = ap (λ b. bytes_eq x k.now || b) (among_texts x ks)
+
+pub not_found : (x : Text) (ks : List (Bor (List ℕ))) → has_text x ks ≡ false → ¬ Contains (texts_of ks) x
+not_found x ks none c = false≢true (sym none ∙ sym (among_texts x ks) ∙ list_any-from_Contains {eq = bytes_eq} nat_list_eq_equiv x (texts_of ks) c)
+
+-- what holds of all holds of the one behind a front
+at_end : (P : Text → Type 0) (ys : List Text) (x : Text) (zs : List Text) → AllByRecursion P (ys ++ x ∷ zs) → P x
+at_end P [] x zs a = a.0
+at_end P (y ∷ ys) x zs a = at_end P ys x zs a.1
+
+-- a text that comes behind others in their order is none of these
+pub new_text : (ks : List (Bor (List ℕ))) (x : Text) (zs : List Text) → IsStrictlySortedBy text_cmp (texts_of ks ++ x ∷ zs) → has_text x ks ≡ false
+unfolding IsStrictlySortedBy
+new_text [] x zs s = refl
+new_text (k ∷ ks) x zs s = λ i. other (bytes_eq x k.now) refl i || new_text ks x zs s.1 i
+  where
+    other : (b : Bool) → bytes_eq x k.now ≡ b → bytes_eq x k.now ≡ false
+    other false e = e
+    other true e = absurd (not_itself x (subst (λ y. text_cmp y x ≡ Less) (sym ((bytes_eq-Decides x k.now).0 e)) (at_end (λ y. text_cmp k.now y ≡ Less) (texts_of ks) x zs s.0)))

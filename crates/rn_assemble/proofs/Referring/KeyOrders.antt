@@ -57,43 +57,6 @@ module _ (rows : List (List ℕ)) (ranks : List ℕ) (ranking : IsRanking rows r
   pub ranked_no_loop : HasNoLoop rows
   ranked_no_loop x l = let h = rank_falls l in omega (arith, h)
 
--- ---- the rows of marked nodes alone
-
-pub kept_rows : List Bool → List (List ℕ) → List (List ℕ)
-kept_rows seen [] = []
-kept_rows [] (r ∷ rows) = [] ∷ kept_rows [] rows
-kept_rows (m ∷ seen) (r ∷ rows) = cond m r [] ∷ kept_rows seen rows
-
-no_row_kept : (m : Bool) → row [] 0 ≡ cond m [] []
-no_row_kept true = refl
-no_row_kept false = refl
-
-pub row_kept : (seen : List Bool) (rows : List (List ℕ)) (n : ℕ) → row (kept_rows seen rows) n ≡ cond (is_marked seen n) (row rows n) []
-unfolding kept_rows
-row_kept seen [] n = no_row_kept (is_marked seen n)
-row_kept [] (r ∷ rows) zero = refl
-row_kept [] (r ∷ rows) (suc n) = row_kept [] rows n
-row_kept (m ∷ seen) (r ∷ rows) zero = refl
-row_kept (m ∷ seen) (r ∷ rows) (suc n) = row_kept seen rows n
-
-kept_size : (seen : List Bool) (rows : List (List ℕ)) → length (kept_rows seen rows) ≡ length rows
-unfolding kept_rows
-kept_size seen [] = refl
-kept_size [] (r ∷ rows) = ap suc (kept_size [] rows)
-kept_size (m ∷ seen) (r ∷ rows) = ap suc (kept_size seen rows)
-
-kept_edge : (m : Bool) (xs : List ℕ) (y : ℕ) → Contains (cond m xs []) y → Contains xs y
-kept_edge true xs y c = c
-kept_edge false xs y (i, h, e) = absurd (omega (arith, h))
-
--- ranks that fall along all edges fall along those from marked nodes
-pub kept_ranking : (seen : List Bool) (rows : List (List ℕ)) (ranks : List ℕ) → IsRanking rows ranks → IsRanking (kept_rows seen rows) ranks
-kept_ranking seen rows ranks k = let size = kept_size seen rows in record {
-  sized = k.sized ∙ sym size;
-  below = λ x h. subst (λ n. rank_of ranks x < n) (sym size) (k.below x (subst (λ n. x < n) size h));
-  falls = λ x y h c. k.falls x y (subst (λ n. x < n) size h) (kept_edge (is_marked seen x) (row rows x) y (subst (λ xs. Contains xs y) (row_kept seen rows x) c));
-}
-
 -- ---- facts of calls, at the values that those have
 
 pub marked_from : (all : List (List ℕ)) (first : List ℕ) (seen : List Bool) → first ≡ row all 0 → ((n : ℕ) → Decides (is_marked seen n) (Reached all first n)) → (n : ℕ) → Decides (is_marked seen n) (Reached all (row all 0) n)

@@ -2,10 +2,10 @@
 use Rattle.std.specs.Prelude.{ℕ, zero, suc, ◌<◌, ◌≡◌, ◌↔◌, List, [], ◌∷◌, ◌++◌, length, map, flat_map, slice_index_or, Contains, Option, Some, None}
 use Rattle.std.specs.List.{AllByRecursion}
 use Rattle.std.specs.List.Sorted.{IsStrictlySortedBy}
+use Rattle.std.specs.Borrow.{Bor}
 use Rattle.rn_text.specs.Texts.{Text, text_cmp}
 use Rattle.rn_syntax.specs.Tree as t
 use Rattle.rn_syntax.specs.Tree.{Item, Items}
-use Rattle.rn_assemble.specs.declared.keys.DefinedName.{DefinedName}
 use Rattle.rn_assemble.specs.Components.{Key, start_key, name_key, NamedModule}
 
 -- the names that items define, those of includes' own items among them
@@ -20,9 +20,9 @@ abbrev mutual
   defines t.no_items = []
   defines (t.item x xs) = item_defines x ++ defines xs
 
--- the names of the entries, in their order
-abbrev pub defined_names : List DefinedName → List Text
-defined_names xs = map (λ (d : DefinedName). d.name.now) xs
+-- the texts that are borrowed
+abbrev pub texts_of : List (Bor (List ℕ)) → List Text
+texts_of xs = map (λ (s : Bor (List ℕ)). s.now) xs
 
 -- all names that the modules define, each once, in their order
 pub record AreNames (modules : List NamedModule) (names : List Text) : Type 0 where
@@ -42,10 +42,6 @@ key_at names (suc n) = name_key (slice_index_or names n [])
 abbrev pub name_at : List Text → ℕ → Text
 name_at names zero = []
 name_at names (suc n) = slice_index_or names n []
-
--- these are the names of the numbers
-abbrev pub HaveNames : (names : List Text) → (numbers : List ℕ) → (placed : List Text) → Type 0
-HaveNames names numbers placed = placed ≡ map (name_at names) numbers
 
 -- the number is that of the name's key
 pub record IsNameNumber (names : List Text) (x : Text) (n : ℕ) : Type 0 where

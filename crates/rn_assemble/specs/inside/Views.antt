@@ -13,18 +13,16 @@ use Rattle.rn_assemble.specs.declared.contents.WrittenComponent as code_componen
 use Rattle.rn_assemble.specs.declared.contents.Contents.{Contents}
 use Rattle.rn_assemble.specs.declared.contents.Include.{Include}
 use Rattle.rn_assemble.specs.Components.{NamedModule}
-use Rattle.rn_assemble.specs.inside.Keyed.{defined_names, key_at}
+pub use Rattle.rn_assemble.specs.inside.Keyed.{texts_of}
+use Rattle.rn_assemble.specs.inside.Keyed.{key_at}
 use Rattle.rn_assemble.specs.declared.trees.KeyedTree.{KeyedTree}
 use Rattle.rn_assemble.specs.declared.trees.Trees.{Trees}
 use Rattle.rn_assemble.specs.inside.Contained.{WrittenComponent, Inclusion}
 use Rattle.rn_assemble.specs.inside.Trees.{TreeView, trees_by}
 
-abbrev pub texts_of : List (Bor (List ℕ)) → List Text
-texts_of xs = map (λ (s : Bor (List ℕ)). s.now) xs
-
 -- the names of the keys, in the order of their numbers
 abbrev pub names_of : Keys → List Text
-names_of keys = defined_names keys.names.items
+names_of keys = texts_of keys.names.keys
 
 abbrev pub named_module_view : code_module.NamedModule → NamedModule
 named_module_view m = record { name = m.name.now; tree = module_view m.tree }

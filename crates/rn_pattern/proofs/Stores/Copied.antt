@@ -23,9 +23,3 @@ parameters_copied [] [] h = refl
 parameters_copied [] (q ∷ qs) h = absurd h
 parameters_copied (p ∷ ps) [] h = absurd h
 parameters_copied (p ∷ ps) (q ∷ qs) h = λ i. (h.0.0 i, h.0.1 i) ∷ parameters_copied ps qs h.1 i
-
-pub members_shared : (ps qs : List (Rc Pattern Global)) → AllZip (λ (p q : Rc Pattern Global). q.value ≡ p.value) ps qs → map shared_view qs ≡ map shared_view ps
-members_shared [] [] h = refl
-members_shared [] (q ∷ qs) h = absurd h
-members_shared (p ∷ ps) [] h = absurd h
-members_shared (p ∷ ps) (q ∷ qs) h = λ i. pattern_view (h.0 i) ∷ members_shared ps qs h.1 i

@@ -11,8 +11,7 @@ use Rattle.rn_syntax.specs.declared.tree.Item.TheVariants.{rolls-Define}
 use Rattle.rn_syntax.specs.declared.tree.Item.TheVariants as written
 use Rattle.rn_syntax.specs.declared.token.Method.{Method}
 use Rattle.rn_syntax.specs.declared.tree.Pat.{Pat}
-use Rattle.rn_assemble.specs.declared.keys.DefinedName.{DefinedName}
-use Rattle.rn_assemble.specs.inside.Keyed.{defined_names, defines, item_defines}
+use Rattle.rn_assemble.specs.inside.Keyed.{texts_of, defines, item_defines}
 use Rattle.rn_assemble.proofs.keys.+names.Goals as goal
 
 -- a define as its tree
@@ -21,14 +20,14 @@ define_seen x m p = ap item_view (sym (rolls-Define x m p)) ∙ fold-roll-Item t
 
 pub push_item_names-returns-in_ok-push-in-Define : goal.push_item_names-returns-in_ok-push-in-Define
 push_item_names-returns-in_ok-push-in-Define t c =
-    let names = defined_names c.args.defined.now.items in
+    let names = texts_of c.args.names.now.items in
     let seen = ap (λ x. item_defines (item_view x)) c.in-Define.is ∙ ap item_defines (define_seen c.in-Define.name c.in-Define.method c.in-Define.body) in
-    ap defined_names c.in_ok-push-in-Define.ensures.items ∙ map-append (λ (d : DefinedName). d.name.now) c.args.defined.now.items _ ∙ ap (λ xs. names ++ xs) (sym seen)
+    ap texts_of c.in_ok-push-in-Define.ensures.items ∙ map-append (λ (s : Bor (List ℕ)). s.now) c.args.names.now.items _ ∙ ap (λ xs. names ++ xs) (sym seen)
 
 pub push_names-items-preserved : goal.push_names-items-preserved
 push_names-items-preserved t c =
     let i = c.items.item-index in
-    let names = defined_names c.items.defined.items in
+    let names = texts_of c.items.names.items in
     let rest = defines (items_view (drop (i + 1) c.args.items.now)) in
     record {
       so_far = ap (λ xs. xs ++ rest) (c.in_ok-push_item_names.ensures ∙ ap (λ x. names ++ item_defines (item_view x)) c.item-item.is)
