@@ -13,7 +13,6 @@ use indexmap::IndexSet;
 use rn_pattern::Seed;
 use rn_syntax::Item;
 use std::alloc::{AllocError, Global};
-use std::cmp::Ordering;
 
 /// The number of start, which comes before all names.
 pub(crate) const START: usize = 0;
@@ -127,7 +126,8 @@ fn push_item_names<'s>(item: &Item<'s>, names: &mut Vec<&'s str>) -> Result<(), 
 
 /// Puts the names in order, each once.
 fn put_in_order(names: &mut Vec<&str>) -> Result<(), AllocError>
-    ensures { OnOk result (texts_of names.new.items ≡ sorted_once text_cmp (texts_of names.old.items)) }
+    ensures { OnOk result (texts_of names.new.items
+        ≡ sorted_once text_cmp (texts_of names.old.items)) }
 {
     names.sort_by(|a: &&str, b: &&str| a.cmp(b))?;
     names.dedup_by(|later, before| *later == *before);

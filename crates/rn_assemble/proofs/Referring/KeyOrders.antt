@@ -1,5 +1,5 @@
 -- The keys that start reaches, sorted by ranks that fall along references outside elements: each comes behind those that it refers to so.
-use Rattle.std.proofs.Common.{◌≡◌, ◌⊎◌, inl, inr, ℕ, zero, suc, ◌<◌, ◌≤◌, Bool, true, false, cond, nat_eq, List, [], ◌∷◌, length, take, get_or, Option, Some, None, refl, sym, ap, ◌∙◌, subst, arith, Contains}
+use Rattle.std.proofs.Common.{◌≡◌, ◌⊎◌, inl, inr, ℕ, suc, ◌<◌, ◌≤◌, Bool, cond, nat_eq, List, [], length, take, get_or, Option, Some, None, refl, sym, ◌∙◌, subst, arith, Contains}
 use Rattle.std.specs.Prelude.{Decides, bytes_eq}
 use Rattle.std.specs.List.Sorted.{IsStrictlySortedBy, IsNonDecreasingBy, IsPermutation}
 use Rattle.std.specs.Cmp.Lexicographic.{bytes_decides}

@@ -1,9 +1,8 @@
 -- What values of the code stand for.
-use Rattle.std.specs.Prelude.{ℕ, suc, ◌<◌, ◌≡◌, List, [], ◌∷◌, ◌++◌, length, map, Vec}
+use Rattle.std.specs.Prelude.{suc, ◌<◌, ◌≡◌, List, [], ◌∷◌, ◌++◌, length, map, Vec}
 use Rattle.std.specs.declared.alloc.Global.{Global}
 use Rattle.std.specs.List.{AllByRecursion}
 use Rattle.std.specs.List.Sorted.{IsStrictlySortedBy}
-use Rattle.std.specs.Borrow.{Bor}
 use Rattle.rn_text.specs.Texts.{Text, text_cmp}
 use Rattle.rn_syntax.specs.View.{declaration_view, items_view, module_view, prefix_view}
 use Rattle.rn_syntax.specs.declared.tree.Item.{Item}

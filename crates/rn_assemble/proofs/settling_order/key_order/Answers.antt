@@ -1,4 +1,4 @@
-use Rattle.std.proofs.Common.{◌∙◌, refl, subst, sym}
+use Rattle.std.proofs.Common.{refl, subst, sym}
 use Rattle.rn_pattern.specs.Graph.{rows_of}
 use Rattle.rn_pattern.specs.Ranks.{IsOrdered, IsRanking, IsFirstLoop}
 use Rattle.rn_pattern.proofs.Graphs.BuiltRows.{row_within, kept_graph}
