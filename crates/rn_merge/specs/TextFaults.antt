@@ -40,7 +40,7 @@ place_of kind.Builtin at = Builtin at
 place_of kind.ContextValue at = ContextValue at
 place_of kind.Except at = Except at
 
--- want of memory is of no kind
+-- out of memory is of no kind
 abbrev pub kind_and_place : Place → Option (FaultKind × ℕ)
 kind_and_place (Encoding at) = Some (kind.Encoding, at)
 kind_and_place (Lexical at) = Some (kind.Lexical, at)
@@ -70,5 +70,10 @@ HasSyntaxFault text place = (tokens : List Token) × AreTokensOf text tokens × 
 abbrev pub HasPlace : List ℕ → Place → Type 0
 HasPlace text (Encoding at) = HasFault text (reading.Encoding at)
 HasPlace text (Lexical at) = HasFault text (reading.Lexical at)
+HasPlace text (Deep at) = HasSyntaxFault text (Deep at)
+HasPlace text (Syntax at) = HasSyntaxFault text (Syntax at)
+HasPlace text (Prefix at) = HasSyntaxFault text (Prefix at)
+HasPlace text (Builtin at) = HasSyntaxFault text (Builtin at)
+HasPlace text (ContextValue at) = HasSyntaxFault text (ContextValue at)
+HasPlace text (Except at) = HasSyntaxFault text (Except at)
 HasPlace text Memory = Unit {0}
-HasPlace text place = HasSyntaxFault text place

@@ -108,6 +108,15 @@ fn fronts_are_no_bundles(rt: HostRuntime) {
     }
 }
 
+#[test]
+fn a_bundle_of_annotations_is_truncated(rt: HostRuntime) {
+    let text = "@a\nnamespace sch = \"s\" sch:ns [ prefix = \"p\" ] [ sch:x = \"1\" ] start = element a { empty } >> sch:y [ \"z\" ]";
+    let set = written_set(rt.alloc(), text).expect(&rt, "no set");
+    let mut bytes = bundle(&rt, &set);
+    bytes.pop();
+    is_found(&rt, "without its last byte", bytes.as_slice(), "Truncated");
+}
+
 /// The entry of a text `abc` of revision 7.
 fn entry(rt: &(impl Abort + AllocGlobal), name: &str) -> String {
     format!(in rt.alloc(); "module {name} 7 3 {DIGEST}\nabc\n").expect(rt, "no memory")

@@ -8,7 +8,7 @@ use Rattle.rn_merge.specs.declared.run.RunFault.TheVariants.{Bundle, Full, Memor
 use Rattle.rn_merge.specs.declared.run.Status.{Status}
 use Rattle.rn_merge.specs.Runs.{IsUnion, IsPrinting, IsRun, LeavesSink}
 use Rattle.rn_merge.specs.inside.Outcomes.{refusal_outcome}
-use Rattle.rn_merge.specs.Verdicts.{IsRefusedAs}
+use Rattle.rn_merge.proofs.Verdicts.SetVerdict.{IsRefusedAs}
 
 pub refused_printing : (old new : Option (List ℕ)) (failed : Bool) (s : List Member) (q : code.Refusal) → IsRefusedAs s q → IsPrinting s old new failed (refusal_outcome q)
 refused_printing old new failed s r.Memory h = tt

@@ -18,10 +18,10 @@ use Rattle.rn_simplify.proofs.Printed.PrintedSets.{printed_read}
 use Rattle.rn_simplify.proofs.Renaming.CanonicalGrammars.{canonical_renamed}
 use Rattle.rn_simplify.proofs.Renaming.KnownUris.{known_canonical}
 use Rattle.rn_merge.specs.Schemas.{IsSchemaOfSet, RefusesFirst}
-use Rattle.rn_merge.specs.Verdicts.{Answer, IsAnswer, IsRefusedAs, verdict_view}
+use Rattle.rn_merge.specs.Verdicts.{Answer, IsAnswer, verdict_view}
 use Rattle.rn_merge.proofs.Verdicts.LoneContributions.{effective_alone}
 use Rattle.rn_merge.proofs.Verdicts.Clashes.{plain_once, one_method}
-use Rattle.rn_merge.proofs.Verdicts.SetVerdict.{answered, unrefused}
+use Rattle.rn_merge.proofs.Verdicts.SetVerdict.{answered, IsRefusedAs, unrefused}
 
 pub schema : (s : List Member) (text : Text) → IsVerdict s (prints text) → IsSchemaOfSet s text
 schema s text h =

@@ -11,9 +11,13 @@ use Rattle.rn_assemble.specs.Refused.{IsFirstRefusal}
 use Rattle.rn_simplify.specs.Printing.{IsPrinted, IsUnprinted}
 use Rattle.rn_simplify.specs.Verdict.{Verdict, prints, refused, too_large, too_deep, IsCanonicalOfSet, IsVerdict}
 use Rattle.rn_simplify.proofs.Printed.OneVerdict.{one_verdict}
-use Rattle.rn_merge.specs.Verdicts.{verdict_view, IsRefusedAs, Answer, answer_view, IsAnswer}
+use Rattle.rn_merge.specs.Verdicts.{verdict_view, Answer, answer_view, IsAnswer}
 
 -- ---- from the parts to the answer
+
+-- the refusal is the verdict of the set, or out of memory
+abbrev pub IsRefusedAs : List Member → code.Refusal → Type 0
+IsRefusedAs s q = MatchOption (verdict_view q) (q ≡ r.Memory) (IsVerdict s)
 
 -- the first refusal of a set is its verdict
 pub refused_first : (s : List Member) (q : code.Refusal) → IsFirstRefusal s q → IsRefusedAs s q
@@ -35,7 +39,7 @@ pub answered : (s : List Member) (n : Grammar) (answer : Answer) → IsCanonical
 answered s n (Ok text) c p u = (n, c, p)
 answered s n (Err q) c p u = unprinted s n q c u
 
--- a refusal that is no want of memory
+-- a refusal other than out of memory
 pub refused_as : (s : List Member) (q : code.Refusal) → q ≢ r.Memory → IsRefusedAs s q → IsSomeAnd (verdict_view q) (IsVerdict s)
 refused_as s q some h = by (verdict_view q) h
   where
