@@ -27,19 +27,19 @@ loop-reference-preserved c =
     let r = get_or rs i no_reference in
     let everywhere = c.loop-reference.row.everywhere.items in
     let outside = c.loop-reference.row.outside.items in
-    let o = c.find_next-key.result in
+    let o = c.find-key.result in
     let inv = c.loop-reference.invariant in
     let before = λ (meant : Reach). names_within meant (map reference_view (take i rs)) in
     let more = λ (meant : Reach). sym (names_more meant rs i c.loop-reference-test.true) in
     record {
-      everywhere_within = subst (AllBelow (length names + 1)) (sym c.in_ok-add_key.ensures.everywhere) (below_within _ everywhere Everywhere r.reach o inv.everywhere_within c.find_next-key.ensures.within);
+      everywhere_within = subst (AllBelow (length names + 1)) (sym c.in_ok-add_key.ensures.everywhere) (below_within _ everywhere Everywhere r.reach o inv.everywhere_within c.find-key.ensures.within);
       everywhere = subst (λ ts. AreNumbers names ts c.add_key.new.row.everywhere.items) (more Everywhere)
-          (subst (AreNumbers names (before Everywhere ++ r.name.now ∷ [])) (sym c.in_ok-add_key.ensures.everywhere) (number_found names _ everywhere r.name.now inv.everywhere Everywhere r.reach o c.find_next-key.ensures.found));
-      outside_within = subst (AllBelow (length names + 1)) (sym c.in_ok-add_key.ensures.outside) (below_within _ outside OutsideElements r.reach o inv.outside_within c.find_next-key.ensures.within);
+          (subst (AreNumbers names (before Everywhere ++ r.name.now ∷ [])) (sym c.in_ok-add_key.ensures.everywhere) (number_found names _ everywhere r.name.now inv.everywhere Everywhere r.reach o c.find-key.ensures.found));
+      outside_within = subst (AllBelow (length names + 1)) (sym c.in_ok-add_key.ensures.outside) (below_within _ outside OutsideElements r.reach o inv.outside_within c.find-key.ensures.within);
       outside = subst (λ ts. AreNumbers names ts c.add_key.new.row.outside.items) (more OutsideElements)
-          (subst (AreNumbers names (before OutsideElements ++ within OutsideElements r.reach r.name.now)) (sym c.in_ok-add_key.ensures.outside) (number_found names _ outside r.name.now inv.outside OutsideElements r.reach o c.find_next-key.ensures.found));
+          (subst (AreNumbers names (before OutsideElements ++ within OutsideElements r.reach r.name.now)) (sym c.in_ok-add_key.ensures.outside) (number_found names _ outside r.name.now inv.outside OutsideElements r.reach o c.find-key.ensures.found));
       least = subst (λ ts. KeepsLeast names c.args.components.now ts c.args.undefined.now c.least_undefined.result) (more Everywhere)
-          (keeps_both names c.args.components.now (before Everywhere) (r.name.now ∷ []) _ _ _ inv.least (c.least_undefined.ensures names c.find_next-key.ensures.found));
+          (keeps_both names c.args.components.now (before Everywhere) (r.name.now ∷ []) _ _ _ inv.least (c.least_undefined.ensures names c.find-key.ensures.found));
     }
 
 pub returns-clause-least : goal.returns-clause-least
