@@ -2,6 +2,7 @@
 use Rattle.std.specs.Prelude.{ℕ, List, Option, Some, None, Result, Ok, Err, string_bytes}
 use Rattle.std.specs.Io.KnownBytes.{Appends}
 use Rattle.rn_simplify.specs.Verdict.{prints, IsVerdict}
+use Rattle.rn_rng.specs.Written.{IsXmlOf}
 use Rattle.rn_lift.specs.declared.lifted.LiftedModule.{LiftedModule}
 use Rattle.rn_flat.specs.declared.flat_fault.FlatFault.{FlatFault}
 use Rattle.rn_flat.specs.declared.words.Product.{Product}
@@ -21,10 +22,16 @@ pub record IsFlatSchema (text : List ℕ) : Type 0 where
   pub modules : List LiftedModule
   pub is_schema : IsFlatSchemaOf modules text
 
--- the schema of a set of modules, in a syntax; of the XML nothing is said
+-- the text is the XML of the schema of a set of modules
+pub record IsFlatXml (text : List ℕ) : Type 0 where
+  pub schema : List ℕ
+  pub is_schema : IsFlatSchema schema
+  pub is_xml : IsXmlOf schema text
+
+-- the schema of a set of modules, in a syntax
 abbrev pub IsSchemaIn : Syntax → List ℕ → Type 0
 IsSchemaIn Compact text = IsFlatSchema text
-IsSchemaIn Xml text = Unit {0}
+IsSchemaIn Xml text = IsFlatXml text
 
 -- a product that is the schema is one in its syntax
 abbrev pub IsProduct : Product → List ℕ → Type 0

@@ -3,6 +3,7 @@ ghost use Rattle.std.specs.Prelude.{◌≡◌, false, map, string_bytes, IfOk};
 ghost use Rattle.rn_flat.specs.FlatFaults.{LeavesOutput};
 ghost use Rattle.rn_flat.specs.ModuleSets.{IsSetOf};
 ghost use Rattle.rn_flat.specs.inside.ToldFiles.{told_of};
+ghost use Rattle.rn_rng.specs.Written.{IsXmlOf};
 ghost use Rattle.rn_flat.specs.JobResults.{Delivers, IsProduct, IsFlatSchema, IsFlatSchemaOf, IsSchemaIn};
 
 use crate::compare::check_file;
@@ -103,7 +104,9 @@ fn spelled(alloc: Global, schema: String, syntax: Syntax) -> Result<Vec<u8>, Fla
 }
 
 /// The XML of a schema. `Refused` where it would be too long.
-fn xml_bytes(alloc: Global, schema: &str) -> Result<Vec<u8>, FlatFault> {
+fn xml_bytes(alloc: Global, schema: &str) -> Result<Vec<u8>, FlatFault>
+    ensures { IfOk result (λ text. IsXmlOf schema.now text.items) }
+{
     match schema_xml(alloc, schema) {
         Ok(xml) => Ok(xml.into_bytes()),
         Err(XmlFault::Memory) => Err(FlatFault::Memory),
