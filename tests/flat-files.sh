@@ -35,6 +35,14 @@ mode() {
     if [ "$(stat -c %a "$2")" = "$3" ]; then pass; else fail "$1: $(stat -c %a "$2")"; fi
 }
 
+# included NAME LITERAL ARGUMENT..: in/m.rnc includes the literal, which defines x.
+included() {
+    local name=$1 literal=$2
+    shift 2
+    printf 'include "%s"\nstart = x\n' "$literal" >in/m.rnc
+    row "$name" 0 'default namespace = ""\nstart = x\nx = text\n' '' "$@" in/m.rnc
+}
+
 outside='the file is not below the root folder'
 schema='default namespace = ""\nstart = text\n'
 
@@ -70,17 +78,60 @@ refused 'missing below the root' 3 'no such file' none.rnc --root in
 refused 'missing below a folder of the root' 3 'no such file' sub/none.rnc --root in
 refused 'folder below the root' 3 'this is a folder' sub --root in
 # links may lead from place to place below the root, and from a map into it; without a root anywhere
-printf 'include "inner/x.rnc"\nstart = x\n' >in/m.rnc
-row 'a link within the root' 0 'default namespace = ""\nstart = x\nx = text\n' '' --root in in/m.rnc
-printf 'include "http://m/x.rnc"\nstart = x\n' >in/m.rnc
-row 'a link from the map into the root' 0 'default namespace = ""\nstart = x\nx = text\n' '' --root in --map http://m/=map in/m.rnc
+included 'a link within the root' inner/x.rnc --root in
+included 'a link from the map into the root' http://m/x.rnc --root in --map http://m/=map
 printf 'x = text\n' >out/there.rnc
-printf 'include "http://m/there.rnc"\nstart = x\n' >in/m.rnc
-row 'a link from the map without a root' 0 'default namespace = ""\nstart = x\nx = text\n' '' --map http://m/=map in/m.rnc
-printf 'include "there.rnc"\nstart = x\n' >in/m.rnc
-row 'a link without a root' 0 'default namespace = ""\nstart = x\nx = text\n' '' in/m.rnc
+included 'a link from the map without a root' http://m/there.rnc --map http://m/=map
+included 'a link without a root' there.rnc
+# with a root a map finds what lies in its folder, which may be a link, or one file
+ln -s map linked
+printf 'x = text\n' >map/own.rnc
+included 'what a map finds' http://m/own.rnc --root in --map http://m/=map
+included 'a map to a link' http://m/own.rnc --root in --map http://m/=linked
+included 'a map to a file' urn:m --root in --map urn:m=out/there.rnc
+for literal in there.rnc broken.rnc out/none.rnc out/there.rnc; do
+    ln -s ../out/none.rnc map/broken.rnc 2>/dev/null
+    ln -sn ../out map/out 2>/dev/null
+    refused "out of the map: $literal" 1 "$outside" "http://m/$literal" --root in --map http://m/=map
+done
+refused 'missing below the map' 3 'no such file' http://m/none.rnc --root in --map http://m/=map
+# a root folder that isn't there: nothing is read
+row 'no root folder' 3 '' 'rnc-flat: error: the folder of --root: no such file\n' --root none out/there.rnc
 row 'an argument outside' 1 '' "rnc-flat: error: out/there.rnc: $outside\n" --root in out/there.rnc
 chmod 700 out/locked
+
+# ---- a file that is swapped, while the program runs, for a link to one outside: never a byte of that
+if command -v python3 >/dev/null; then
+    room race
+    mkdir in out
+    printf 'x = element secret { text }\n' >out/x.rnc
+    printf 'x = text\n' >in/kept.rnc
+    printf 'include "x.rnc"\nstart = x\n' >in/m.rnc
+    ln in/kept.rnc in/x.rnc
+    python3 -c '
+import os
+swaps = 0
+while swaps < 1000 or not os.path.exists("stop"):
+    os.symlink("../out/x.rnc", "in/new")
+    os.rename("in/new", "in/x.rnc")
+    os.link("in/kept.rnc", "in/new")
+    os.rename("in/new", "in/x.rnc")
+    swaps += 1
+' &
+    bad=0
+    for n in $(seq 300); do
+        "$program" --root in in/m.rnc >got.out 2>got.err
+        case $? in
+        0) grep -q -x 'x = text' got.out || bad=$((bad + 1)) ;;
+        1) grep -q "$outside" got.err || bad=$((bad + 1)) ;;
+        *) bad=$((bad + 1)) ;;
+        esac
+        if grep -q secret got.out got.err; then bad=$((bad + 1)); fi
+    done
+    : >stop
+    wait
+    if [ "$bad" -eq 0 ]; then pass; else fail "a file that is swapped: $bad of 300, $(tail -3 got.err)"; fi
+fi
 
 # ---- pipes, devices and sockets are refused where a reference leads to them, and are not opened
 room special
@@ -129,6 +180,18 @@ row 'a name of 255 bytes' 0 '' '' -o "$name" a.rnc
 row 'a name of 255 bytes once more' 0 '' '' -o "$name" a.rnc
 if [ "$(cat "$name")" = "$(printf '%b' "$schema")" ]; then pass; else fail 'a name of 255 bytes'; fi
 rm "$name" flat.rnc
+# a file that is read is not written, by whatever path
+for output in a.rnc ./a.rnc "$PWD/a.rnc" c.rnc; do
+    cp a.rnc a.kept
+    row "the output is read: $output" 2 '' "rnc-flat: error: $output is one of the files that are read\n" -o "$output" b.rnc
+    same "the output is read: $output" a.rnc a.kept
+    if [ -L c.rnc ]; then pass; else fail 'the link was replaced'; fi
+    rm a.kept
+done
+ln a.rnc other.rnc
+row 'another name of a file that is read' 0 '' '' -o other.rnc b.rnc
+if [ "$(cat a.rnc)" = 'start = text' ] && [ "$(cat other.rnc)" = "$(printf '%b' "$schema")" ]; then pass; else fail 'another name of a file that is read'; fi
+rm other.rnc
 # a user who may not write the file, where the tests are run by root, who may
 if [ "$(id -u)" -eq 0 ] && command -v setpriv >/dev/null; then
     as_user() { setpriv --reuid 65534 --regid 65534 --clear-groups "$@"; }
@@ -173,6 +236,20 @@ for n in $(seq 20); do
 done 2>/dev/null
 left=$(ls -A | grep -v -x -e '[abc].rnc' -e 'large.rnc' -e 'flat.rnc' | grep -v -x -E '\.rnc-flat-[0-9]+-[0-9]+\.new')
 if [ -z "$left" ] && [ "$torn" -eq 0 ]; then pass; else fail "what a kill leaves: $torn torn, $left"; fi
+
+# ---- the current folder is gone: what is named from the topmost folder is read
+room gone
+printf 'include "b.rnc"\nstart = text\n' >a.rnc
+printf 'x = text\n' >b.rnc
+here=$PWD
+mkdir below
+cd below && rmdir ../below
+row 'a path from the topmost folder' 0 'default namespace = ""\nstart = text\n' '' "$here/a.rnc"
+row 'a root folder from the topmost folder' 0 'default namespace = ""\nstart = text\n' '' --root "$here" "$here/a.rnc"
+printf 'start = ^\n' >"$here/b.rnc"
+row 'a message' 1 '' "$here/b.rnc:1:9: error: nothing that the compact syntax has begins like this\n    start = ^\n            ^\n" "$here/a.rnc"
+row 'a path from the current folder' 3 '' 'rnc-flat: error: the current folder: no such file\n' a.rnc
+row 'standard input' 3 '' 'rnc-flat: error: the current folder: no such file\n' -
 
 cd "$work" || exit 2
 

@@ -4,3 +4,4 @@ mod FileGraphs
 mod WalkedSegments
 mod SlashPlaces
 mod LongestPrefixes
+mod FilesRead

@@ -12,7 +12,8 @@ use Rattle.std.proofs.lemmas.Option.{IfSome_then}
 use Rattle.std.proofs.lemmas.List.Elements.{All-append, All-cons, All-nil, All-weaker}
 use Rattle.std.proofs.lemmas.Slice.Eq.{starts_is}
 use Rattle.std.proofs.lemmas.Str.Pattern.{starts_text}
-use Rattle.rn_files.specs.inside.Maps.{HasNoMap, IsLongest, behind, chosen, left_by}
+use Rattle.rn_files.specs.Maps.{HasNoMap, IsLongest, behind, left_by}
+use Rattle.rn_files.specs.inside.Maps.{chosen}
 use Rattle.rn_files.specs.declared.maps.Map.{Map}
 
 -- what `strip_prefix` gives

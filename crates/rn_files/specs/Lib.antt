@@ -5,5 +5,7 @@ pub mod Paths
 pub mod Escapes
 pub mod Uris
 pub mod UriReferences
+pub mod Maps
+pub mod ReadableFiles
 pub mod MemoryFiles
 pub mod inside

@@ -15,10 +15,6 @@ edges_of files = map (λ (f : SourceFile). f.targets.items) files
 abbrev pub count_links : SourceFile → ℕ
 count_links f = count_by is_link f.outline.parts.items
 
--- the text of the source is what is given at its path
-abbrev pub IsTextAt : (List ℕ → List ℕ → Type 0) → SourceFile → Type 0
-IsTextAt gives f = gives (string_bytes f.path) (string_bytes f.text)
-
 -- no file has the name of one after it
 abbrev pub HaveOwnNames : List SourceFile → Type 0
 HaveOwnNames [] = ⊤

@@ -1,5 +1,6 @@
 // The text of a file, and what it is made of.
 ghost use Rattle.std.specs.Prelude.{◌≡◌, IfOk, IsErr, OnOk, string_bytes};
+ghost use Rattle.rn_files.specs.inside.Following.{IsFront};
 
 use crate::source_faults::SourceFaultKind;
 use rn_outline::{Outline, OutlineFault, read_outline};
@@ -28,7 +29,9 @@ pub struct FileTextFault {
 }
 
 /// The front of the bytes up to the one with this number, if it is UTF-8.
-fn front(bytes: &[u8], at: usize) -> &str {
+fn front(bytes: &[u8], at: usize) -> &str
+    ensures { IsFront bytes.now result.now }
+{
     match bytes.get(..at) {
         Some(front) => str::from_utf8(front).unwrap_or(""),
         None => "",
@@ -65,7 +68,8 @@ fn outline_of(alloc: Global, text: &str) -> Result<Result<Outline, FileTextFault
 
 /// The text that the bytes are, and its outline.
 pub fn text_of(alloc: Global, bytes: &[u8]) -> Result<FileText, AllocError>
-    ensures { IfOk result (λ read. OnOk read.outline (string_bytes read.text ≡ bytes.now)) }
+    ensures whole { IfOk result (λ read. OnOk read.outline (string_bytes read.text ≡ bytes.now)) }
+    ensures front { IfOk result (λ read. IsFront bytes.now (string_bytes read.text)) }
 {
     match str::from_utf8(bytes) {
         Ok(text) => Ok(FileText {
@@ -78,7 +82,8 @@ pub fn text_of(alloc: Global, bytes: &[u8]) -> Result<FileText, AllocError>
 
 /// What is read of bytes that are no UTF-8 from this one on.
 fn unread_text(alloc: Global, bytes: &[u8], at: usize) -> Result<FileText, AllocError>
-    ensures { IfOk result (λ read. IsErr read.outline) }
+    ensures faulty { IfOk result (λ read. IsErr read.outline) }
+    ensures front { IfOk result (λ read. IsFront bytes.now (string_bytes read.text)) }
 {
     Ok(FileText {
         text: String::from_str(alloc, front(bytes, at))?,

@@ -32,28 +32,45 @@ pub enum FileFault {
 /// The path that is standard input.
 pub const STANDARD_INPUT: &str = "-";
 
+/// Which files are looked up and opened at a path.
+#[derive(Clone, Copy, Debug, PartialEq, Eq)]
+pub enum Kinds {
+    /// Regular files alone. A folder is the fault `Folder`, anything else `Special`, and isn't opened.
+    Regular,
+    /// Folders, pipes, devices and sockets too, for which the program may wait. A folder can't be read.
+    Any,
+}
+
+/// A file that was opened, and what was read of it.
+#[derive(Debug, Drop)]
+pub struct OpenedFile {
+    /// The real path of what was opened, which is asked for after the opening; nothing where the system doesn't tell it.
+    pub path: String,
+    /// The bytes of the file.
+    pub bytes: Vec<u8>,
+}
+
 /// What files are read from, by paths whose segments are parted by `/`. A path that doesn't begin with `/` is one below
 /// the current folder, which is the path `.`; [`STANDARD_INPUT`] is standard input.
 pub trait Files {
     // What the path may lead to; a type that says nothing allows all.
     ghost leads: { Self → List ℕ → List ℕ → Type 0 } = { λ _ _ _. Unit {0} };
 
-    // What may be read at the path.
-    ghost gives: { Self → List ℕ → List ℕ → Type 0 } = { λ _ _ _. Unit {0} };
+    // What may be opened at the path: a file that has this real path, and these bytes.
+    ghost gives: { Self → List ℕ → List ℕ → List ℕ → Type 0 } = { λ _ _ _ _. Unit {0} };
 
     /// The one path of the file or the folder that the path leads to: it begins with `/`, and has no segment that is
     /// empty, `.`, `..` or a link. A pipe without such a path has the one by which it was asked for. A fault tells why
     /// there is none, or that memory ran out.
-    fn real_path(&self, alloc: Global, path: &str) -> Result<String, FileFault>
+    fn real_path(&self, alloc: Global, path: &str, kinds: Kinds) -> Result<String, FileFault>
         ensures { IfOk result (λ found. leads self.now path.now (string_bytes found)) };
 
-    /// The bytes of the file at the path, or of standard input at [`STANDARD_INPUT`]. `Large` where they are more than
-    /// `MAX_TEXT`; another fault tells why they can't be read, or that memory ran out.
-    fn read(&self, alloc: Global, path: &str) -> Result<Vec<u8>, FileFault>
-        ensures { IfOk result (λ bytes. gives self.now path.now bytes.items) };
-
-    /// Whether the path leads to a pipe, a device or a socket, which is looked at and not opened.
-    fn is_special(&self, alloc: Global, path: &str) -> bool;
+    /// Opens the file at the path, or standard input at [`STANDARD_INPUT`], once, and reads it. Its real path, its kind
+    /// and its size are those of what was opened, whatever lies at the path by then. `Large` where it has more than
+    /// `MAX_TEXT` bytes; another fault tells why it can't be read, or that memory ran out.
+    fn read(&self, alloc: Global, path: &str, kinds: Kinds) -> Result<OpenedFile, FileFault>
+        ensures { IfOk result (λ opened.
+            gives self.now path.now (string_bytes opened.path) opened.bytes.items) };
 
     /// Whether a link lies at the path: its last segment is not followed.
     fn is_link(&self, path: &str) -> bool;

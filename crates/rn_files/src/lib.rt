@@ -2,17 +2,21 @@
 //!
 //! [`read_sources`] follows each reference from the URI of its file (RFC 3986, section 5.2), through maps of URIs to
 //! folders, to a file that [`Files`] reads. Each file is one source with a module's name, however it is spelled.
-//! [`position`] and [`line_of`] say where a byte of a text stands.
+//! With a root folder, what was opened is read only where it lies in that folder, or in the folder of the map that found
+//! it. [`position`] and [`line_of`] say where a byte of a text stands.
 //!
 //! Work and memory grow with the bytes that are read and the references in them; nothing recurses.
 #![tactic(auto)]
 
+mod bounds;
 mod escapes;
+mod file_names;
 mod file_texts;
 mod files;
 mod following;
 pub mod laws;
 mod line_breaks;
+mod links;
 mod maps;
 mod memory_files;
 mod module_names;
@@ -28,7 +32,7 @@ mod uris;
 mod walk;
 
 pub use file_texts::MAX_TEXT;
-pub use files::{FileFault, Files, STANDARD_INPUT};
+pub use files::{FileFault, Files, Kinds, OpenedFile, STANDARD_INPUT};
 pub use line_breaks::Position;
 pub use maps::Map;
 pub use memory_files::MemoryFiles;

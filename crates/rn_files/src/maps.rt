@@ -4,7 +4,8 @@ ghost use Rattle.std.specs.List.{ends_with};
 ghost use Rattle.std.specs.Option.{option_copied, option_map};
 ghost use Rattle.rn_files.specs.Paths.{has_dots};
 ghost use Rattle.percent_encoding.specs.Percent.{percent_decode};
-ghost use Rattle.rn_files.specs.inside.Maps.{HasNoMap, IsFilePath, IsLongest, IsLocation, behind, behind_prefix, below, chosen, has_no_host, is_file_scheme, is_whole};
+ghost use Rattle.rn_files.specs.Maps.{HasNoMap, IsFilePath, IsLongest, IsLocation, behind, behind_prefix, below, has_no_host, is_file_scheme, is_whole};
+ghost use Rattle.rn_files.specs.inside.Maps.{chosen};
 
 use crate::paths::has_dots;
 use crate::uri_references::{ReferenceFault, no_memory};
@@ -38,7 +39,7 @@ fn begins_with_slash(text: &str) -> bool
 }
 
 /// Whether a text ends with a slash.
-fn ends_with_slash(text: &str) -> bool
+pub fn ends_with_slash(text: &str) -> bool
     ensures { result ≡ ends_with nat_eq text.now (codes "/") }
 {
     text.ends_with("/")
@@ -59,7 +60,7 @@ fn rest_behind<'u>(uri: &'u str, prefix: &str) -> Option<&'u str>
 }
 
 /// What comes behind the prefix of a URI, by whole segments.
-fn behind_prefix<'u>(uri: &'u str, prefix: &str) -> Option<&'u str>
+pub fn behind_prefix<'u>(uri: &'u str, prefix: &str) -> Option<&'u str>
     ensures { option_copied result ≡ behind_prefix uri.now prefix.now }
 {
     match rest_behind(uri, prefix) {
@@ -100,7 +101,7 @@ fn choose<'m, 'u>(
 }
 
 /// The folder of the longest prefix that the URI begins with, the first of them among equals, and what comes behind it.
-fn longest_prefix<'m, 'u>(maps: &'m [Map], uri: &'u str) -> Option<(&'m str, &'u str)>
+pub fn longest_prefix<'m, 'u>(maps: &'m [Map], uri: &'u str) -> Option<(&'m str, &'u str)>
     ensures { MatchOption result (HasNoMap maps.now uri.now)
         (λ b. IsLongest maps.now uri.now b.0.now b.1.now) }
 {

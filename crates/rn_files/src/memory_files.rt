@@ -1,12 +1,12 @@
 // Files in memory.
-ghost use Rattle.std.specs.Prelude.{◌≡◌, string_bytes};
+ghost use Rattle.std.specs.Prelude.{◌≡◌, IfOk, string_bytes};
 ghost use Rattle.std.specs.BTreeMap.{get_by_text};
 ghost use Rattle.std.specs.List.{before_last};
 ghost use Rattle.rn_files.specs.Paths.{is_slash};
 ghost use Rattle.rn_files.specs.MemoryFiles.{IsFileOf};
 
 use crate::file_texts::MAX_TEXT;
-use crate::files::{FileFault, Files};
+use crate::files::{FileFault, Files, Kinds, OpenedFile};
 use std::alloc::{AllocError, Global};
 use std::collections::BTreeMap;
 
@@ -19,6 +19,8 @@ pub enum MemoryEntry {
     Pipe(Vec<u8>),
     /// A link to the file or folder at this real path.
     Link(String),
+    /// A file that is looked up as one of its own; once it is opened, the file at this real path is in its place.
+    Swapped(String),
 }
 
 /// Files and links in memory, by their paths, and a current folder. A folder is there where something lies in it.
@@ -80,6 +82,20 @@ impl MemoryFiles {
         Ok(())
     }
 
+    /// Puts a file at a real path, in place of what was there, which is swapped for the one at another real path as soon
+    /// as it was looked up. Refused only where memory runs out: then what was there stays.
+    pub fn add_swapped(
+        &mut self,
+        alloc: Global,
+        path: &str,
+        target: &str,
+    ) -> Result<(), AllocError> {
+        let path = String::from_str(alloc, path)?;
+        let target = String::from_str(alloc, target)?;
+        self.entries.insert(path, MemoryEntry::Swapped(target))?;
+        Ok(())
+    }
+
     /// Goes on from a real path by a segment.
     fn enter(&self, path: &mut String, segment: &str) -> Result<(), AllocError> {
         match segment {
@@ -112,12 +128,47 @@ impl MemoryFiles {
             None => false,
         })
     }
+
+    /// Refuses a real path at which nothing is, or what is of another kind.
+    fn check_kind(&self, real: &str, kinds: Kinds) -> Result<(), FileFault> {
+        let is_regular = kinds == Kinds::Regular;
+        match self.entries.get(real) {
+            Some(MemoryEntry::Pipe(_)) if is_regular => Err(FileFault::Special),
+            Some(_) => Ok(()),
+            None if !self.is_folder(real) => Err(FileFault::Missing),
+            None if is_regular => Err(FileFault::Folder),
+            None => Ok(()),
+        }
+    }
+
+    /// Where a path is that is opened: a file that was swapped is at its other path.
+    fn opened_path<'p>(&'p self, path: &'p str) -> &'p str {
+        match self.entries.get(path) {
+            Some(MemoryEntry::Swapped(target)) => target.as_str(),
+            _ => path,
+        }
+    }
+
+    /// The bytes of the file at a real path.
+    fn bytes(&self, alloc: Global, path: &str, kinds: Kinds) -> Result<Vec<u8>, FileFault>
+        ensures { IfOk result (λ bytes.
+            IsFileOf (get_by_text self.now.entries path.now) bytes.items) }
+    {
+        match self.entries.get(path) {
+            Some(MemoryEntry::File(bytes)) if bytes.len() > MAX_TEXT => Err(FileFault::Large),
+            Some(MemoryEntry::File(bytes)) => bytes.as_slice().to_vec(alloc).map_err(no_memory),
+            Some(MemoryEntry::Pipe(_)) if kinds == Kinds::Regular => Err(FileFault::Special),
+            Some(MemoryEntry::Pipe(bytes)) => bytes.as_slice().to_vec(alloc).map_err(no_memory),
+            _ if self.is_folder(path) => Err(FileFault::Folder),
+            _ => Err(FileFault::Missing),
+        }
+    }
 }
 
 impl Files for MemoryFiles {
-    ghost gives = { λ m path bytes. IsFileOf (get_by_text m.entries path) bytes };
+    ghost gives = { λ m _ real bytes. IsFileOf (get_by_text m.entries real) bytes };
 
-    fn real_path(&self, alloc: Global, path: &str) -> Result<String, FileFault> {
+    fn real_path(&self, alloc: Global, path: &str, kinds: Kinds) -> Result<String, FileFault> {
         let mut real = String::new(alloc);
         if !path.starts_with('/') {
             real.push_str(self.current.as_str()).map_err(no_memory)?;
@@ -125,30 +176,18 @@ impl Files for MemoryFiles {
         for segment in path.split('/') {
             self.enter(&mut real, segment).map_err(no_memory)?;
         }
-        if !self.entries.contains_key(real.as_str()) && !self.is_folder(real.as_str()) {
-            return Err(FileFault::Missing);
-        }
+        self.check_kind(real.as_str(), kinds)?;
         if real.is_empty() {
             real.push_str("/").map_err(no_memory)?;
         }
         Ok(real)
     }
 
-    fn read(&self, alloc: Global, path: &str) -> Result<Vec<u8>, FileFault> {
-        match self.entries.get(path) {
-            Some(MemoryEntry::File(bytes)) if bytes.len() > MAX_TEXT => Err(FileFault::Large),
-            Some(MemoryEntry::File(bytes)) => bytes.as_slice().to_vec(alloc).map_err(no_memory),
-            Some(MemoryEntry::Pipe(bytes)) => bytes.as_slice().to_vec(alloc).map_err(no_memory),
-            _ if self.is_folder(path) => Err(FileFault::Folder),
-            _ => Err(FileFault::Missing),
-        }
-    }
-
-    fn is_special(&self, alloc: Global, path: &str) -> bool {
-        match self.real_path(alloc, path) {
-            Ok(real) => matches!(self.entries.get(real.as_str()), Some(MemoryEntry::Pipe(_))),
-            Err(_) => false,
-        }
+    fn read(&self, alloc: Global, path: &str, kinds: Kinds) -> Result<OpenedFile, FileFault> {
+        let opened = self.opened_path(path);
+        let bytes = self.bytes(alloc, opened, kinds)?;
+        let path = String::from_str(alloc, opened).map_err(no_memory)?;
+        Ok(OpenedFile { path, bytes })
     }
 
     fn is_link(&self, path: &str) -> bool {

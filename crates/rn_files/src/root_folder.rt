@@ -1,6 +1,11 @@
 // Folders: the root folder that is asked for, and the deepest one that holds all files.
+ghost use Rattle.std.specs.Prelude.{◌≡◌, IfOk, string_bytes};
+ghost use Rattle.rn_files.specs.ReadableFiles.{with_slash};
 
-/// The folder below which files must lie, with a slash at its end.
+use crate::maps::ends_with_slash;
+use std::alloc::AllocError;
+
+/// The folder below which files must lie.
 #[derive(Debug, Drop)]
 pub struct RootFolder {
     /// The real path of the folder, with a slash at its end.
@@ -9,11 +14,15 @@ pub struct RootFolder {
     pub spelled: String,
 }
 
-impl RootFolder {
-    /// Whether the real path of a file lies below the root folder.
-    pub fn holds(&self, path: &str) -> bool {
-        path.starts_with(self.real.as_str())
+/// A path of a folder with a slash at its end.
+pub fn with_slash(path: String) -> Result<String, AllocError>
+    ensures { IfOk result (λ found. string_bytes found ≡ with_slash (string_bytes path)) }
+{
+    let mut path = path;
+    if !ends_with_slash(path.as_str()) {
+        path.push_str("/")?;
     }
+    Ok(path)
 }
 
 /// A path up to its last slash, and with it; nothing where it has no slash.

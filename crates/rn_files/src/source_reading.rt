@@ -1,20 +1,20 @@
 // From the files that are asked for to sources.
-ghost use Rattle.std.specs.Prelude.{◌≡◌, All, IfOk, IfSome};
-ghost use Rattle.rn_files.specs.inside.Following.{IsFollowed};
-ghost use Rattle.rn_files.specs.Sources.{AreSoundSources, IsTextAt};
+ghost use Rattle.std.specs.Prelude.{◌≡◌, [], All, IfErr, IfOk, IfSome, string_bytes};
+ghost use Rattle.rn_files.specs.inside.Following.{IsFollowed, IsRootOf, root_path};
+ghost use Rattle.rn_files.specs.ReadableFiles.{IsFrontOfRead, IsReadAt, IsReadFor, IsReadSource, KeepsWhatIsRead};
+ghost use Rattle.rn_files.specs.Sources.{AreSoundSources};
 
-use crate::files::Files;
-use crate::following::{Ways, enter_words, follow_all, word_uri};
+use crate::bounds::Ways;
+use crate::file_names::name_files;
+use crate::files::{FileFault, Files, Kinds};
+use crate::following::{enter_words, follow_all, word_uri};
 use crate::maps::locate;
-use crate::module_names::module_name;
-use crate::root_folder::{RootFolder, common_folder};
+use crate::root_folder::{RootFolder, with_slash};
 use crate::soundness::sources_fault;
-use crate::source_faults::{FaultPlace, SourceFault, SourceFaultKind};
+use crate::source_faults::{FaultPlace, SourceFault};
 use crate::sources::{Asked, Attempt, SourceFile, Sources};
-use crate::walk::{Entry, Followed, FoundBy, FoundFile, Walk};
-use rn_modset::MAX_NAME;
+use crate::walk::{Followed, FoundFile, Walk};
 use std::alloc::{AllocError, Global};
-use std::collections::BTreeSet;
 
 /// What was read and what is wrong, where there are no sources.
 #[derive(Debug, Drop)]
@@ -35,92 +35,31 @@ pub enum ReadingFault {
 }
 
 impl From<AllocError> for ReadingFault {
+    ghost use Rattle.std.specs.Prelude.{◌≡◌};
+    ghost use Rattle.rn_files.specs.declared.source_reading.ReadingFault.TheVariants.{Memory};
+
+    ghost from_gives = { λ _ fault. fault ≡ Memory };
+
     fn from(_: AllocError) -> Self {
         ReadingFault::Memory
     }
 }
 
-/// What a module's name is made from: the path below the root folder, or the URI where a map found the file.
-fn unescaped_name<'e>(entry: &'e Entry, root: &str) -> &'e str {
-    let path = entry.found.path.as_str();
-    match entry.found.by {
-        FoundBy::Input => path,
-        FoundBy::Map => entry.found.uri.as_str(),
-        FoundBy::Path => path.strip_prefix(root).unwrap_or(path),
-    }
-}
-
-/// The name of a file's module; what is wrong with it is kept.
-fn name_of(
-    alloc: Global,
-    entry: &Entry,
-    root: &str,
-    used: &mut BTreeSet<String>,
-    faults: &mut Vec<SourceFault>,
-) -> Result<String, AllocError> {
-    let place = entry.place;
-    let name = module_name(alloc, unescaped_name(entry, root))?;
-    if name.len() > MAX_NAME {
-        let kind = SourceFaultKind::Name;
-        faults.push(SourceFault { place, kind })?;
-    }
-    if !used.insert(name.clone()?)? {
-        let kind = SourceFaultKind::Twice;
-        faults.push(SourceFault { place, kind })?;
-    }
-    Ok(name)
-}
-
-/// The names of all modules; what is wrong with them is kept.
-fn names_of(
-    alloc: Global,
-    entries: &[Entry],
-    root: &str,
-    faults: &mut Vec<SourceFault>,
-) -> Result<Vec<String>, AllocError> {
-    let mut used = BTreeSet::new(alloc);
-    let mut names = Vec::new(alloc);
-    for entry in entries {
-        names.push(name_of(alloc, entry, root, &mut used, faults)?)?;
-    }
-    Ok(names)
-}
-
-/// The root folder where none is given: the deepest one that holds all files which no map found.
-fn deepest_folder(alloc: Global, entries: &[Entry]) -> Result<String, AllocError> {
-    let mut paths = Vec::new(alloc);
-    for entry in entries {
-        if entry.found.by == FoundBy::Path {
-            paths.push(entry.found.path.as_str())?;
-        }
-    }
-    String::from_str(alloc, common_folder(paths.as_slice()))
-}
-
-/// A path of a folder with a slash at its end.
-fn with_slash(path: String) -> Result<String, AllocError> {
-    let mut path = path;
-    if !path.ends_with('/') {
-        path.push_str("/")?;
-    }
-    Ok(path)
-}
-
-/// The root folder, if one is asked for; where it isn't there, that is kept.
+/// The root folder that is asked for; where it isn't there, that is kept.
 fn given_root<F: Files>(
     alloc: Global,
     files: &F,
     current: &str,
-    root: Option<&str>,
+    named: &str,
     walk: &mut Walk,
-) -> Result<Option<RootFolder>, AllocError> {
-    let Some(root) = root else {
+) -> Result<Option<RootFolder>, AllocError>
+    ensures { IfOk result (λ found. IfSome found (IsRootOf (F.leads files.now) named.now)) }
+{
+    let answer = files.real_path(alloc, named, Kinds::Any);
+    let Some(real) = walk.note_answer(FaultPlace::Root, answer)? else {
         return Ok(None);
     };
-    let Some(real) = walk.note_answer(FaultPlace::Root, files.real_path(alloc, root))? else {
-        return Ok(None);
-    };
-    let uri = word_uri(alloc, current, root)?;
+    let uri = word_uri(alloc, current, named)?;
     let spelled = locate(alloc, &[], uri.as_str());
     let Some(spelled) = walk.note_reference(FaultPlace::Root, spelled)? else {
         return Ok(None);
@@ -131,24 +70,38 @@ fn given_root<F: Files>(
     }))
 }
 
+/// What is kept of a file on a walk that found faults.
+fn attempt<F: Files>(_files: &F, _asked: &Asked<'_>, followed: Followed, name: String) -> Attempt
+    requires { IsFollowed
+        (IsReadFor (F.leads _files.now) (F.gives _files.now) _asked.now) followed }
+    ensures { IsFrontOfRead
+        (IsReadFor (F.leads _files.now) (F.gives _files.now) _asked.now)
+        (string_bytes result.text) }
+{
+    let Followed { found, text, .. } = followed;
+    let FoundFile { shown, .. } = found;
+    Attempt { name, shown, text }
+}
+
 /// What was read on a walk that found faults, and what is wrong.
-fn reading_of_walk(
+fn reading_of_walk<F: Files>(
     alloc: Global,
-    walk: Walk,
+    _files: &F,
+    _asked: &Asked<'_>,
+    faults: Vec<SourceFault>,
     followed: Vec<Followed>,
     names: Vec<String>,
-) -> Result<Reading, AllocError> {
-    let Walk {
-        entries,
-        faults,
-        ..
-    } = walk;
+) -> Result<Reading, AllocError>
+    requires { All (IsFollowed
+        (IsReadFor (F.leads _files.now) (F.gives _files.now) _asked.now)) followed.items }
+    ensures { IfOk result (λ reading. All (λ a. IsFrontOfRead
+        (IsReadFor (F.leads _files.now) (F.gives _files.now) _asked.now)
+        (string_bytes a.text)) reading.files.items) }
+{
     let mut files = Vec::new(alloc);
-    for ((entry, followed), name) in entries.into_iter().zip(followed).zip(names) {
-        let Entry { found, .. } = entry;
-        let FoundFile { shown, .. } = found;
-        let Followed { text, .. } = followed;
-        files.push(Attempt { name, shown, text })?;
+    for (followed, name) in followed.into_iter().zip(names) {
+        let kept = attempt(_files, _asked, followed, name);
+        files.push(kept)?;
     }
     Ok(Reading { files, faults })
 }
@@ -156,21 +109,27 @@ fn reading_of_walk(
 /// The source of a file without fault.
 fn source<F: Files>(
     _files: &F,
-    entry: Entry,
+    _asked: &Asked<'_>,
     followed: Followed,
     name: String,
 ) -> Option<SourceFile>
-    requires { IsFollowed (F.gives _files.now) followed }
-    ensures { IfSome result (IsTextAt (F.gives _files.now)) }
+    requires { IsFollowed
+        (IsReadFor (F.leads _files.now) (F.gives _files.now) _asked.now) followed }
+    ensures { IfSome result (IsReadSource
+        (IsReadFor (F.leads _files.now) (F.gives _files.now) _asked.now)) }
 {
-    let Entry { found, .. } = entry;
-    let FoundFile { shown, uri, .. } = found;
     let Followed {
-        path,
+        found,
         text,
         outline,
         targets,
     } = followed;
+    let FoundFile {
+        path,
+        shown,
+        uri,
+        ..
+    } = found;
     match outline {
         Some(outline) => Some(SourceFile {
             name,
@@ -189,38 +148,60 @@ fn source<F: Files>(
 fn sources<F: Files>(
     alloc: Global,
     _files: &F,
-    entries: Vec<Entry>,
+    _asked: &Asked<'_>,
     followed: Vec<Followed>,
     names: Vec<String>,
 ) -> Result<Vec<SourceFile>, AllocError>
-    requires { All (IsFollowed (F.gives _files.now)) followed.items }
-    ensures { IfOk result (λ sources. All (IsTextAt (F.gives _files.now)) sources.items) }
+    requires { All (IsFollowed
+        (IsReadFor (F.leads _files.now) (F.gives _files.now) _asked.now)) followed.items }
+    ensures { IfOk result (λ sources. All (IsReadSource
+        (IsReadFor (F.leads _files.now) (F.gives _files.now) _asked.now)) sources.items) }
 {
     let mut sources = Vec::new(alloc);
-    for ((entry, followed), name) in entries.into_iter().zip(followed).zip(names) {
-        if let Some(source) = source(_files, entry, followed, name) {
+    for (followed, name) in followed.into_iter().zip(names) {
+        if let Some(source) = source(_files, _asked, followed, name) {
             sources.push(source)?;
         }
     }
     Ok(sources)
 }
 
+/// What is kept of a file that has no fault of its own.
+fn attempt_of_source<F: Files>(_files: &F, _asked: &Asked<'_>, source: SourceFile) -> Attempt
+    requires { IsReadSource
+        (IsReadFor (F.leads _files.now) (F.gives _files.now) _asked.now) source }
+    ensures { IsFrontOfRead
+        (IsReadFor (F.leads _files.now) (F.gives _files.now) _asked.now)
+        (string_bytes result.text) }
+{
+    let SourceFile {
+        name,
+        shown,
+        text,
+        ..
+    } = source;
+    Attempt { name, shown, text }
+}
+
 /// What was read of files that have no fault of their own, and what is wrong with them together.
-fn reading_of_sources(
+fn reading_of_sources<F: Files>(
     alloc: Global,
+    _files: &F,
+    _asked: &Asked<'_>,
     sources: Sources,
     fault: SourceFault,
-) -> Result<Reading, AllocError> {
+) -> Result<Reading, AllocError>
+    requires { All (IsReadSource
+        (IsReadFor (F.leads _files.now) (F.gives _files.now) _asked.now)) sources.files.items }
+    ensures { IfOk result (λ reading. All (λ a. IsFrontOfRead
+        (IsReadFor (F.leads _files.now) (F.gives _files.now) _asked.now)
+        (string_bytes a.text)) reading.files.items) }
+{
     let Sources { files, .. } = sources;
     let mut attempts = Vec::new(alloc);
     for source in files {
-        let SourceFile {
-            name,
-            shown,
-            text,
-            ..
-        } = source;
-        attempts.push(Attempt { name, shown, text })?;
+        let kept = attempt_of_source(_files, _asked, source);
+        attempts.push(kept)?;
     }
     let faults = vec![in alloc; fault]?;
     Ok(Reading {
@@ -230,73 +211,136 @@ fn reading_of_sources(
 }
 
 /// Sources without loops along references.
-fn check_sources(alloc: Global, sources: Sources) -> Result<Sources, ReadingFault>
+fn check_sources<F: Files>(
+    alloc: Global,
+    _files: &F,
+    _asked: &Asked<'_>,
+    sources: Sources,
+) -> Result<Sources, ReadingFault>
+    requires { All (IsReadSource
+        (IsReadFor (F.leads _files.now) (F.gives _files.now) _asked.now)) sources.files.items }
     ensures sound { IfOk result (λ s. AreSoundSources s) }
     ensures same { IfOk result (λ s. s ≡ sources) }
+    ensures kept { IfErr result (KeepsWhatIsRead
+        (IsReadFor (F.leads _files.now) (F.gives _files.now) _asked.now)) }
 {
     match sources_fault(alloc, &sources)? {
-        Some(fault) => Err(ReadingFault::Faults(reading_of_sources(alloc, sources, fault)?)),
+        Some(fault) => {
+            let reading = reading_of_sources(alloc, _files, _asked, sources, fault)?;
+            Err(ReadingFault::Faults(reading))
+        }
         None => Ok(sources),
     }
 }
 
-/// What is asked for, once it was found: the numbers of the files, each once, and the root folder, if one is given; and
-/// what was read of all files.
+/// The numbers of the files that are asked for, each once, and what was read of all files.
 #[derive(Drop)]
 struct FollowedFiles {
     roots: Vec<usize>,
-    folder: Option<RootFolder>,
     followed: Vec<Followed>,
 }
 
-/// Finds all files.
+/// What was found, and the root folder, if one is given.
+#[derive(Drop)]
+struct FoundFiles {
+    files: FollowedFiles,
+    folder: Option<RootFolder>,
+}
+
+/// Where nothing is looked for.
+fn no_files(alloc: Global) -> FoundFiles
+    ensures { result.files.followed.items ≡ [] }
+{
+    FoundFiles {
+        files: FollowedFiles {
+            roots: Vec::new(alloc),
+            followed: Vec::new(alloc),
+        },
+        folder: None,
+    }
+}
+
+/// Finds the files that are asked for, and all that they refer to.
+fn follow_words<F: Files>(
+    alloc: Global,
+    files: &F,
+    asked: &Asked<'_>,
+    current: &str,
+    root: Option<&RootFolder>,
+    walk: &mut Walk,
+) -> Result<FollowedFiles, AllocError>
+    ensures { IfOk result (λ found. All (IsFollowed (IsReadAt (F.leads files.now)
+        (F.gives files.now) (root_path root.entry) asked.now.maps.now)) found.followed.items) }
+{
+    let ways = Ways {
+        maps: asked.maps,
+        current,
+        root,
+    };
+    let roots = enter_words(alloc, files, &ways, walk, asked.files)?;
+    let followed = follow_all(alloc, files, &ways, walk)?;
+    Ok(FollowedFiles { roots, followed })
+}
+
+/// Whether a word names something from the current folder, as `-` does: the references in standard input begin there.
+fn is_relative(word: &str) -> bool {
+    !word.starts_with('/')
+}
+
+/// Whether a file or the root folder is named from the current folder.
+fn needs_current(asked: &Asked<'_>) -> bool {
+    asked.root.is_some_and(is_relative) || asked.files.iter().any(|file| is_relative(file.as_str()))
+}
+
+/// The real path of the current folder. Where it has none and nothing is named from it, it is the topmost folder.
+fn current_folder<F: Files>(
+    alloc: Global,
+    files: &F,
+    asked: &Asked<'_>,
+    walk: &mut Walk,
+) -> Result<Option<String>, AllocError> {
+    match files.real_path(alloc, ".", Kinds::Any) {
+        Err(fault) if fault != FileFault::Memory && !needs_current(asked) => {
+            Ok(Some(String::from_str(alloc, "/")?))
+        }
+        answer => walk.note_answer(FaultPlace::Current, answer),
+    }
+}
+
+/// Finds all files. Where a root folder is asked for and isn't there, none is looked for.
 fn find_files<F: Files>(
     alloc: Global,
     files: &F,
     asked: &Asked<'_>,
     walk: &mut Walk,
-) -> Result<FollowedFiles, AllocError>
-    ensures { IfOk result (λ found. All (IsFollowed (F.gives files.now)) found.followed.items) }
+) -> Result<FoundFiles, AllocError>
+    ensures { IfOk result (λ found. All (IsFollowed
+        (IsReadFor (F.leads files.now) (F.gives files.now) asked.now))
+        found.files.followed.items) }
 {
-    let Some(current) = walk.note_answer(FaultPlace::Current, files.real_path(alloc, "."))? else {
-        return Ok(FollowedFiles {
-            roots: Vec::new(alloc),
-            folder: None,
-            followed: Vec::new(alloc),
-        });
+    let Some(current) = current_folder(alloc, files, asked, walk)? else {
+        return Ok(no_files(alloc));
     };
-    let folder = given_root(alloc, files, current.as_str(), asked.root, walk)?;
-    let root = folder.as_ref();
-    let ways = Ways {
-        maps: asked.maps,
-        current: current.as_str(),
-        root,
-    };
-    let roots = enter_words(alloc, files, &ways, walk, asked.files)?;
-    let followed = follow_all(alloc, files, &ways, walk)?;
-    Ok(FollowedFiles {
-        roots,
-        folder,
-        followed,
-    })
-}
-
-/// Names all files, by their paths below the root folder.
-fn name_files(
-    alloc: Global,
-    folder: Option<RootFolder>,
-    walk: &mut Walk,
-) -> Result<Vec<String>, AllocError> {
-    let root = match folder {
-        Some(folder) => folder.real,
-        None => deepest_folder(alloc, walk.entries.as_slice())?,
-    };
-    names_of(
-        alloc,
-        walk.entries.as_slice(),
-        root.as_str(),
-        &mut walk.faults,
-    )
+    let current = current.as_str();
+    match asked.root {
+        Some(named) => {
+            let Some(root) = given_root(alloc, files, current, named, walk)? else {
+                return Ok(no_files(alloc));
+            };
+            let files = follow_words(alloc, files, asked, current, Some(&root), walk)?;
+            Ok(FoundFiles {
+                files,
+                folder: Some(root),
+            })
+        }
+        None => {
+            let files = follow_words(alloc, files, asked, current, None, walk)?;
+            Ok(FoundFiles {
+                files,
+                folder: None,
+            })
+        }
+    }
 }
 
 /// The files that are asked for and all that they refer to, each one read once.
@@ -308,26 +352,35 @@ fn name_files(
 /// Refused are files that can't be read, texts that are no files of the language or have more than
 /// [`MAX_TEXT`](crate::MAX_TEXT) bytes, references that name no file, more than [`MAX_SOURCES`](crate::MAX_SOURCES)
 /// files, names of more than [`rn_modset::MAX_NAME`] bytes or of two files, files that don't lie below the root folder,
-/// and loops along references. Faults of all files are answered, but of loops one. A file that doesn't lie below the
-/// root folder that is asked for is not read.
+/// and loops along references. Faults of all files are answered, but of loops one.
+///
+/// With a root folder, a file is read only where the real path of what was opened lies in it, or in the folder of the
+/// map that found the file; standard input may be named by a word. Nothing is kept of any other, in an error neither.
 pub fn read_sources<F: Files>(
     alloc: Global,
     files: &F,
     asked: &Asked<'_>,
 ) -> Result<Sources, ReadingFault>
     ensures sound { IfOk result (λ s. AreSoundSources s) }
-    ensures texts { IfOk result (λ s. All (IsTextAt (F.gives files.now)) s.files.items) }
+    ensures texts { IfOk result (λ s. All (IsReadSource
+        (IsReadFor (F.leads files.now) (F.gives files.now) asked.now)) s.files.items) }
+    ensures kept { IfErr result (KeepsWhatIsRead
+        (IsReadFor (F.leads files.now) (F.gives files.now) asked.now)) }
 {
     let mut walk = Walk::new(alloc);
-    let FollowedFiles {
-        roots,
+    let FoundFiles {
+        files: found,
         folder,
-        followed,
     } = find_files(alloc, files, asked, &mut walk)?;
+    let FollowedFiles { roots, followed } = found;
     let names = name_files(alloc, folder, &mut walk)?;
     if !walk.faults.is_empty() {
-        return Err(ReadingFault::Faults(reading_of_walk(alloc, walk, followed, names)?));
+        let reading = reading_of_walk(alloc, files, asked, walk.faults, followed, names)?;
+        return Err(ReadingFault::Faults(reading));
     }
-    let files = sources(alloc, files, walk.entries, followed, names)?;
-    check_sources(alloc, Sources { files, roots })
+    let sources = Sources {
+        files: sources(alloc, files, asked, followed, names)?,
+        roots,
+    };
+    check_sources(alloc, files, asked, sources)
 }

@@ -3,6 +3,7 @@ ghost use Rattle.std.specs.Prelude.{◌≡◌, IfOk, IfSome, Ok};
 ghost use Rattle.rn_files.specs.inside.Following.{EntriesGrow};
 
 use crate::files::FileFault;
+use crate::links::LinkFault;
 use crate::source_faults::{FaultPlace, SourceFault, SourceFaultKind};
 use crate::uri_references::ReferenceFault;
 use rn_outline::Outline;
@@ -24,7 +25,7 @@ pub enum FoundBy {
 }
 
 /// A file to which a word or a reference led; it may not be read yet.
-#[derive(Drop)]
+#[derive(Clone, Drop)]
 pub struct FoundFile {
     /// The real path of the file, or `-` for standard input.
     pub path: String,
@@ -45,11 +46,11 @@ pub struct Entry {
     pub place: FaultPlace,
 }
 
-/// What was read at a path.
+/// What was read of a file.
 #[derive(Drop)]
 pub struct Followed {
-    /// The real path, or `-`.
-    pub path: String,
+    /// The file.
+    pub found: FoundFile,
     /// The text, or as much of it as is UTF-8.
     pub text: String,
     /// What the text is made of, if it has no fault.
@@ -65,6 +66,12 @@ pub struct Walk {
     pub entries: Vec<Entry>,
     /// Of each path, the number of its file.
     pub numbers: BTreeMap<String, usize>,
+    /// Of each URI that was looked up, the number of its file, or its fault.
+    pub led: BTreeMap<String, Result<usize, LinkFault>>,
+    /// How many of those URIs led to no file.
+    pub missed: usize,
+    /// Whether no further file is looked for: one too many was named, or so many are not there.
+    pub is_full: bool,
     /// The faults, in the order in which they were found.
     pub faults: Vec<SourceFault>,
 }
@@ -75,6 +82,9 @@ impl Walk {
         Walk {
             entries: Vec::new(alloc),
             numbers: BTreeMap::new(alloc),
+            led: BTreeMap::new(alloc),
+            missed: 0,
+            is_full: false,
             faults: Vec::new(alloc),
         }
     }
@@ -125,32 +135,62 @@ impl Walk {
         }
     }
 
-    /// The number of a file that was found at a place; none where it would be one too many, which is a fault.
-    pub fn enter(
+    /// What a word or a reference led to; a fault is kept, and is then none.
+    pub fn note_link<T: Drop>(
         &mut self,
-        found: FoundFile,
         place: FaultPlace,
-    ) -> Result<Option<usize>, AllocError>
+        led: Result<T, LinkFault>,
+    ) -> Result<Option<T>, AllocError>
+        ensures grows { EntriesGrow self.old self.new }
+        ensures led { IfOk result (λ noted. IfSome noted (λ value. led ≡ Ok value)) }
+    {
+        match led {
+            Ok(value) => Ok(Some(value)),
+            Err(LinkFault::Memory) => Err(AllocError),
+            Err(fault) => {
+                self.note(place, fault.kind())?;
+                Ok(None)
+            }
+        }
+    }
+
+    /// Keeps where a URI led. After [`MAX_SOURCES`] that led to no file, no further one is looked for.
+    pub fn keep(&mut self, uri: String, led: Result<usize, LinkFault>) -> Result<(), AllocError>
+        ensures { EntriesGrow self.old self.new }
+    {
+        if led.is_err() {
+            self.missed = self.missed.saturating_add(1);
+        }
+        if self.missed >= MAX_SOURCES {
+            self.is_full = true;
+        }
+        self.led.insert(uri, led)?;
+        Ok(())
+    }
+
+    /// The number of a file that was found at a place. `Count` where it would be one too many; then no further file is
+    /// looked for.
+    pub fn enter(&mut self, found: FoundFile, place: FaultPlace) -> Result<usize, LinkFault>
         ensures { EntriesGrow self.old self.new }
     {
         if let Some(number) = self.numbers.get(found.path.as_str()) {
-            return Ok(Some(*number));
+            return Ok(*number);
         }
         if self.entries.len() >= MAX_SOURCES {
-            self.note(place, SourceFaultKind::Count)?;
-            return Ok(None);
+            self.is_full = true;
+            return Err(LinkFault::Count);
         }
-        self.add(found, place)
+        Ok(self.add(found, place)?)
     }
 
     /// Puts a file behind the others.
-    fn add(&mut self, found: FoundFile, place: FaultPlace) -> Result<Option<usize>, AllocError>
+    fn add(&mut self, found: FoundFile, place: FaultPlace) -> Result<usize, AllocError>
         ensures { EntriesGrow self.old self.new }
     {
         let number = self.entries.len();
         let path = found.path.clone()?;
         self.entries.push(Entry { found, place })?;
         self.numbers.insert(path, number)?;
-        Ok(Some(number))
+        Ok(number)
     }
 }

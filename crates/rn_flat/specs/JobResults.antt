@@ -3,6 +3,7 @@ use Rattle.std.specs.Prelude.{ℕ, List, Option, Some, None, Result, Ok, Err, st
 use Rattle.std.specs.Io.KnownBytes.{Appends}
 use Rattle.rn_simplify.specs.Verdict.{prints, IsVerdict}
 use Rattle.rn_rng.specs.Written.{IsXmlOf}
+use Rattle.rn_files.specs.ReadableFiles.{Gives, IsGiven}
 use Rattle.rn_lift.specs.declared.lifted.LiftedModule.{LiftedModule}
 use Rattle.rn_flat.specs.declared.flat_fault.FlatFault.{FlatFault}
 use Rattle.rn_flat.specs.declared.words.Product.{Product}
@@ -41,8 +42,8 @@ IsProduct Listing text = Unit {0}
 IsProduct Graph text = Unit {0}
 
 -- what a job that is done did: standard output, or the file, has the product; or the file that is checked is a schema
-abbrev pub Delivers : {T : Type 0} → Task → Option (List ℕ) → Option (List ℕ) → (List ℕ → List ℕ → Type 0) → (List ℕ → List ℕ → Type 0) → Result T FlatFault → Type 0
+abbrev pub Delivers : {T : Type 0} → Task → Option (List ℕ) → Option (List ℕ) → (List ℕ → List ℕ → Type 0) → Gives → Result T FlatFault → Type 0
 Delivers (Write product None) old new holds gives (Ok x) = (text : List ℕ) × IsProduct product text × Appends old new text
 Delivers (Write product (Some path)) old new holds gives (Ok x) = (text : List ℕ) × IsProduct product text × holds (string_bytes path) text
-Delivers (Check file syntax) old new holds gives (Ok x) = (text : List ℕ) × IsSchemaIn syntax text × gives (string_bytes file) text
+Delivers (Check file syntax) old new holds gives (Ok x) = (text : List ℕ) × IsSchemaIn syntax text × IsGiven gives (string_bytes file) text
 Delivers task old new holds gives (Err fault) = Unit {0}

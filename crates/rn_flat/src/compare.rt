@@ -1,9 +1,10 @@
 // Where a file differs from the schema, and the fault that says so.
 ghost use Rattle.std.specs.Prelude.{◌≡◌, MatchOption, OnOk};
+ghost use Rattle.rn_files.specs.ReadableFiles.{IsGiven};
 ghost use Rattle.rn_flat.specs.Comparisons.{DifferFirst};
 
 use crate::flat_fault::{FlatFault, refusal_fault};
-use rn_files::{FileFault, Files, line_of, position};
+use rn_files::{FileFault, Files, Kinds, line_of, position};
 use rn_tell::{Colours, Message, Messages, Page, SHOWN, Spot, push_printable, skipped_front};
 use std::alloc::{AllocError, Global};
 
@@ -37,10 +38,10 @@ pub fn check_file<F: Files>(
     schema: &[u8],
     colours: Colours,
 ) -> Result<(), FlatFault>
-    ensures { OnOk result (F.gives files.now path.now schema.now) }
+    ensures { OnOk result (IsGiven (F.gives files.now) path.now schema.now) }
 {
-    let found = match files.read(alloc, path) {
-        Ok(found) => found,
+    let found = match files.read(alloc, path, Kinds::Any) {
+        Ok(opened) => opened.bytes,
         Err(FileFault::Memory) => return Err(FlatFault::Memory),
         Err(fault) => return Err(unread_fault(alloc, path, fault)?),
     };

@@ -9,7 +9,7 @@ ghost use Rattle.rn_flat.specs.JobResults.{Delivers, IsProduct, IsFlatSchema, Is
 use crate::compare::check_file;
 use crate::flat_fault::{FlatFault, refusal_fault};
 use crate::module_set::set_of;
-use crate::outputs::{Outputs, write_file, write_standard};
+use crate::outputs::{Outputs, check_output, write_file, write_standard};
 use crate::products::{graph_text, list_text};
 use crate::reading_faults::reading_fault;
 use crate::words::{Job, Product, Syntax, Task};
@@ -29,8 +29,8 @@ const TOO_LARGE_XML: &str =
 
 /// Reads the files of a job with all that they reach, makes what is asked for, and writes or compares it. Nothing is
 /// written where there is a fault. `Refused` where the files are no schema, or the file that is checked is not the
-/// schema; `Unread` where a file can't be read; `Unwritten` where the output failed: a file is then as it was, standard
-/// output took a front.
+/// schema; `Usage` where the output is one of the files that were read; `Unread` where a file can't be read; `Unwritten`
+/// where the output failed: a file is then as it was, standard output took a front.
 ///
 /// A bundle is refused only where files can't be read or lifted or their modules are no set; a list, only for reading
 /// and lifting; a graph, only for reading. Whether their modules have a schema is not looked at.
@@ -59,6 +59,9 @@ pub fn perform<F: Files, S: Outputs, W: Sink>(
     };
     match &job.task {
         Task::Write { product, output } => {
+            if let Some(path) = output {
+                check_output(alloc, files, sources.files.as_slice(), path.as_str())?;
+            }
             let text = product_text(alloc, sources, *product, colours)?;
             match output {
                 Some(path) => write_file(alloc, outputs, path.as_str(), text.as_slice()),

@@ -1,9 +1,11 @@
 // Where a product goes: a file, or standard output.
 ghost use Rattle.std.specs.Prelude.{◌≡◌, ℕ, List, OnErr, OnOk, false};
-ghost use Rattle.rn_flat.specs.Deliveries.{IsWritten};
+ghost use Rattle.std.specs.List.{list_any};
+ghost use Rattle.rn_flat.specs.Deliveries.{IsWritten, lies_at};
 ghost use Rattle.rn_flat.specs.inside.Outputs.{IsUnwritten};
 
 use crate::flat_fault::FlatFault;
+use rn_files::{FileFault, Files, Kinds, SourceFile};
 use rn_merge::{Failed, Sink, write_output};
 use rn_tell::push_printable;
 use std::alloc::{AllocError, Global};
@@ -17,6 +19,32 @@ pub trait Outputs {
     fn replace(&mut self, path: &str, bytes: &[u8]) -> Result<(), Failed>
         ensures ok { OnOk result (holds self.new path.now bytes.now) }
         ensures err { OnErr result (self.new ≡ self.old) };
+}
+
+/// Whether one of the files that were read has this real path.
+fn is_source(sources: &[SourceFile], real: &str) -> bool
+    ensures { result ≡ list_any (lies_at real.now) sources.now }
+{
+    sources.iter().any(|source| source.path.as_str() == real)
+}
+
+/// Refuses to write a file that was read: the fault is `Usage`, since the words name it as both. A path at which there
+/// is nothing yet is good.
+pub fn check_output<F: Files>(
+    alloc: Global,
+    files: &F,
+    sources: &[SourceFile],
+    path: &str,
+) -> Result<(), FlatFault> {
+    match files.real_path(alloc, path, Kinds::Any) {
+        Ok(real) if is_source(sources, real.as_str()) => Err(FlatFault::Usage(output_line(
+            alloc,
+            path,
+            " is one of the files that are read\n",
+        )?)),
+        Err(FileFault::Memory) => Err(FlatFault::Memory),
+        _ => Ok(()),
+    }
 }
 
 /// Gives the file at the path these bytes. The one fault is `Unwritten`, which leaves the files as they were.
@@ -51,15 +79,16 @@ pub fn write_standard<W: Sink>(alloc: Global, out: &mut W, bytes: &[u8]) -> Resu
 fn unwritten_fault(alloc: Global, output: &str) -> FlatFault
     ensures { IsUnwritten result }
 {
-    match unwritten_line(alloc, output) {
+    match output_line(alloc, output, " can't be written\n") {
         Ok(line) => FlatFault::Unwritten(line),
         Err(_) => FlatFault::Unwritten(String::new(alloc)),
     }
 }
 
-fn unwritten_line(alloc: Global, output: &str) -> Result<String, AllocError> {
+/// A line about an output.
+fn output_line(alloc: Global, output: &str, sentence: &str) -> Result<String, AllocError> {
     let mut line = String::from_str(alloc, "rnc-flat: error: ")?;
     push_printable(&mut line, output)?;
-    line.push_str(" can't be written\n")?;
+    line.push_str(sentence)?;
     Ok(line)
 }

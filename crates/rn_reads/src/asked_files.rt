@@ -25,6 +25,7 @@ fn take_line(
         "file" => given.files.add_file(alloc, first, second.as_bytes()),
         "pipe" => given.files.add_pipe(alloc, first, second.as_bytes()),
         "link" => given.files.add_link(alloc, first, second),
+        "swapped" => given.files.add_swapped(alloc, first, second),
         "word" => Ok(given.words.push(String::from_str(alloc, first)?)?),
         "root" => {
             given.root = Some(String::from_str(alloc, first)?);
@@ -107,7 +108,7 @@ fn answer_for_row(alloc: Global, lines: &str) -> Result<String, AllocError> {
     answer_line(alloc, read_sources(alloc, &given.files, &asked))
 }
 
-/// Each row has its answer. A row is written in lines (a file with its text, a pipe, a link, a word, a root folder, a map), and what is wanted
+/// Each row has its answer. A row is written in lines (a file with its text, a pipe, a link, a file that is swapped for another, a word, a root folder, a map), and what is wanted
 /// has the modules with their targets, and the roots; or the faults.
 pub fn each_answered(rt: &(impl Abort + AllocGlobal), rows: &[(&str, &str)]) {
     for (lines, wanted) in rows {

@@ -58,6 +58,60 @@ fn what_leads_out_of_the_root_folder_has_one_fault(rt: HostRuntime) {
     each_answered(&rt, &LED_OUT);
 }
 
+/// Files that are swapped between the look and the opening: with a root folder what was opened counts.
+static SWAPPED: [(&str, &str); 5] = [
+    (
+        "file\t/w/r/a.rnc\tinclude 'b.rnc'\nswapped\t/w/r/b.rnc\t/w/c.rnc\nfile\t/w/c.rnc\tstart = ^\nword\tr/a.rnc\nroot\tr",
+        "Text { file: 0, at: 8 } Outside;",
+    ),
+    (
+        "swapped\t/w/r/a.rnc\t/w/c.rnc\nfile\t/w/c.rnc\tstart = ^\nword\tr/a.rnc\nroot\tr",
+        "Word(0) Outside;",
+    ),
+    (
+        "file\t/w/r/a.rnc\tinclude 'b.rnc'\nswapped\t/w/r/b.rnc\t/w/r/c.rnc\nfile\t/w/r/c.rnc\t\nword\tr/a.rnc\nroot\tr",
+        "a.rnc [1] b.rnc [] roots [0]",
+    ),
+    (
+        "file\t/w/r/a.rnc\tinclude 'b.rnc'\nswapped\t/w/r/b.rnc\t/w/c.rnc\nfile\t/w/c.rnc\t\nword\tr/a.rnc",
+        "a.rnc [1] b.rnc [] roots [0]",
+    ),
+    (
+        "file\t/w/r/a.rnc\tinclude 'http://h/b.rnc'\nswapped\t/w/m/b.rnc\t/w/c.rnc\nfile\t/w/c.rnc\tstart = ^\nword\tr/a.rnc\nroot\tr\nmap\thttp://h\t/w/m",
+        "Text { file: 0, at: 8 } Outside;",
+    ),
+];
+
+#[test]
+fn files_that_are_swapped_are_refused(rt: HostRuntime) {
+    each_answered(&rt, &SWAPPED);
+}
+
+/// Files that a map finds with a root folder: they lie in the folder of the map, which may be one file, or in the root.
+static MAPPED: [(&str, &str); 4] = [
+    (
+        "file\t/w/r/a.rnc\tinclude 'http://h/b.rnc' include 'http://h/none.rnc' include 'http://h/d/none.rnc'\nlink\t/w/m/b.rnc\t/w/c.rnc\nfile\t/w/c.rnc\tstart = ^\nlink\t/w/m/d\t/w\nword\tr/a.rnc\nroot\tr\nmap\thttp://h\t/w/m",
+        "Text { file: 0, at: 8 } Outside;Text { file: 0, at: 33 } File(Missing);Text { file: 0, at: 61 } Outside;",
+    ),
+    (
+        "file\t/w/r/a.rnc\tinclude 'http://h/b.rnc' include 'urn:x:c'\nlink\t/w/l\t/w/m\nfile\t/w/m/b.rnc\t\nfile\t/w/c.rnc\t\nword\tr/a.rnc\nroot\tr\nmap\thttp://h\tl\nmap\turn:x:c\tc.rnc",
+        "a.rnc [1, 2] http://h/b.rnc [] urn:x:c [] roots [0]",
+    ),
+    (
+        "file\t/w/r/a.rnc\tinclude 'http://h/b.rnc'\nlink\t/w/m/b.rnc\t/w/mx/b.rnc\nfile\t/w/mx/b.rnc\t\nword\tr/a.rnc\nroot\tr\nmap\thttp://h\tm",
+        "Text { file: 0, at: 8 } Outside;",
+    ),
+    (
+        "file\t/w/a.rnc\tstart = ^\nword\ta.rnc\nroot\tno",
+        "Root File(Missing);",
+    ),
+];
+
+#[test]
+fn maps_bound_what_they_find(rt: HostRuntime) {
+    each_answered(&rt, &MAPPED);
+}
+
 /// Files above the root folder, in a folder of its name and in others.
 static ROOT_FOLDER: [(&str, &str); 7] = [
     (
@@ -120,6 +174,23 @@ fn references_above_the_topmost_folder_are_refused(rt: HostRuntime) {
     each_answered(&rt, &TOPMOST);
 }
 
+/// What a URI led to is the same wherever it is named, and has its fault at each place.
+static AGAIN: [(&str, &str); 2] = [
+    (
+        "file\t/w/a.rnc\tinclude 'c' include 'b.rnc' include 'c' include ''\nfile\t/w/b.rnc\tinclude 'c' include 'd/../c' include ''\nword\ta.rnc",
+        "Text { file: 0, at: 8 } File(Missing);Text { file: 0, at: 36 } File(Missing);Text { file: 0, at: 48 } Reference(Empty);Text { file: 1, at: 8 } File(Missing);Text { file: 1, at: 20 } File(Missing);Text { file: 1, at: 37 } Reference(Empty);",
+    ),
+    (
+        "file\t/w/r/a.rnc\tinclude '../b' include '../b'\nfile\t/w/b\t\nword\tr/a.rnc\nroot\tr",
+        "Text { file: 0, at: 8 } Outside;Text { file: 0, at: 23 } Outside;",
+    ),
+];
+
+#[test]
+fn faults_are_told_at_each_place(rt: HostRuntime) {
+    each_answered(&rt, &AGAIN);
+}
+
 /// Words that name no file.
 static WORDS: [(&str, &str); 1] = [(
     "file\t/w/d/a.rnc\t\nword\tb.rnc\nword\td",
@@ -129,6 +200,31 @@ static WORDS: [(&str, &str); 1] = [(
 #[test]
 fn words_have_their_faults(rt: HostRuntime) {
     each_answered(&rt, &WORDS);
+}
+
+/// A current folder that isn't there: files may be named from the topmost folder, and no other way.
+static CURRENT: [(&str, &str); 4] = [
+    (
+        "file\t/x/a.rnc\tinclude 'b.rnc'\nfile\t/x/b.rnc\t\nword\t/x/a.rnc",
+        "a.rnc [1] b.rnc [] roots [0]",
+    ),
+    (
+        "file\t/x/a.rnc\t\nword\t/x/a.rnc\nroot\t/",
+        "x/a.rnc [] roots [0]",
+    ),
+    (
+        "file\t/x/a.rnc\t\nword\t/x/a.rnc\nroot\tx",
+        "Current File(Missing);",
+    ),
+    (
+        "file\t-\t\nfile\t/x/a.rnc\t\nword\t/x/a.rnc\nword\t-",
+        "Current File(Missing);",
+    ),
+];
+
+#[test]
+fn files_are_named_from_the_topmost_folder(rt: HostRuntime) {
+    each_answered(&rt, &CURRENT);
 }
 
 /// Texts with faults, of which all are told.

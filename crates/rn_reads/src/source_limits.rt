@@ -57,6 +57,33 @@ fn one_file_more_is_refused(rt: HostRuntime) {
     same_for(&rt, "1,025 files", found.as_str(), wanted);
 }
 
+/// A file that includes so many others, none of which is there.
+fn absent_files(alloc: Global, count: usize) -> Result<MemoryFiles, AllocError> {
+    let mut files = MemoryFiles::new(alloc, "/w")?;
+    let mut text = String::new(alloc);
+    for number in 0..count {
+        write!(text, "include '{number}.rnc'\n")?;
+    }
+    files.add_file(alloc, "/w/a.rnc", text.as_bytes())?;
+    Ok(files)
+}
+
+#[test]
+fn so_many_files_are_looked_for(rt: HostRuntime) {
+    let files = absent_files(rt.alloc(), 2_000).expect(&rt, "no memory");
+    let answer = answer_for_a(rt.alloc(), &files);
+    assert_eq!(rt; count_of_faults(&answer), 1_024);
+}
+
+#[test]
+fn after_one_file_more_none_is_read(rt: HostRuntime) {
+    let mut files = included_files(rt.alloc(), 1_024).expect(&rt, "no memory");
+    let added = files.add_file(rt.alloc(), "/w/7.rnc", b"start = ^");
+    added.expect(&rt, "no memory");
+    let answer = answer_for_a(rt.alloc(), &files);
+    assert_eq!(rt; count_of_faults(&answer), 1);
+}
+
 /// What is answered for a file of so many spaces.
 fn answer_for_spaces(alloc: Global, count: usize) -> Result<String, AllocError> {
     let bytes = vec![in alloc; b' '; count]?;

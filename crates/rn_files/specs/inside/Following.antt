@@ -1,8 +1,11 @@
 -- What was found and read of files, and which files references lead to.
-use Rattle.std.specs.Prelude.{ℕ, ◌≤◌, Bool, List, IfSome, string_bytes, vec_len}
-use Rattle.rn_files.specs.inside.Maps.{IsLocation}
-use Rattle.rn_files.specs.inside.UriReferences.{StandsFor}
+use Rattle.std.specs.Prelude.{◌≡◌, ℕ, ◌≤◌, Bool, List, take, MatchOption, Option, Some, None, string_bytes, vec_len}
+use Rattle.std.specs.Borrow.{Bor}
+use Rattle.rn_files.specs.Maps.{IsLocation}
+use Rattle.rn_files.specs.ReadableFiles.{Gives, IsFrontOfRead, IsReadAt, Leads, Reads, with_slash}
 use Rattle.rn_files.specs.declared.maps.Map.{Map}
+use Rattle.rn_files.specs.declared.bounds.Ways.{Ways}
+use Rattle.rn_files.specs.declared.root_folder.RootFolder.{RootFolder}
 use Rattle.rn_files.specs.declared.walk.Followed.{Followed}
 use Rattle.rn_files.specs.declared.walk.Walk.{Walk}
 
@@ -10,13 +13,29 @@ use Rattle.rn_files.specs.declared.walk.Walk.{Walk}
 abbrev pub EntriesGrow : Walk → Walk → Type 0
 EntriesGrow before after = vec_len before.entries ≤ vec_len after.entries
 
--- where a file has no fault, its text is what is given at its path
-abbrev pub IsFollowed : (List ℕ → List ℕ → Type 0) → Followed → Type 0
-IsFollowed gives f = IfSome f.outline (λ o. gives (string_bytes f.path) (string_bytes f.text))
+-- the real path of the root folder, with a slash at its end, if one is given
+abbrev pub root_path : Option (Bor RootFolder) → Option (List ℕ)
+root_path None = None
+root_path (Some root) = Some (string_bytes root.now.real)
 
--- a literal of an include or an external, in a file with the URI `base`, leads to the file at this path: what it stands for, which is
--- this URI, lies at a place (below the folder of a map, or at the path of a `file` URI), and what is there is the file, whose one
--- path this is
-abbrev pub LeadsTo : (List ℕ → List ℕ → Type 0) → List Map → List ℕ → List ℕ → List ℕ → List ℕ → Type 0
-LeadsTo leads maps base literal uri path = StandsFor base literal uri
-    × ((place : List ℕ) × (is_mapped : Bool) × IsLocation maps uri place is_mapped × leads place path)
+-- these bytes were read on these ways
+abbrev pub IsReadBy : Leads → Gives → Ways → Reads
+IsReadBy leads gives ways = IsReadAt leads gives (root_path ways.root) ways.maps.now
+
+-- the root folder is the one to which the path leads that is asked for
+abbrev pub IsRootOf : Leads → List ℕ → RootFolder → Type 0
+IsRootOf leads named root = (folder : List ℕ) × leads named folder × (string_bytes root.real ≡ with_slash folder)
+
+-- where a file has no fault, its text is what was read; else it is a front of what was read, or nothing
+abbrev pub IsFollowed : Reads → Followed → Type 0
+IsFollowed reads f =
+    MatchOption f.outline (IsFrontOfRead reads (string_bytes f.text)) (λ o. reads (string_bytes f.found.uri) (string_bytes f.found.path) (string_bytes f.text))
+
+-- a URI leads to the file at this path: it lies at a place (below the folder of a map, or at the path of a `file` URI), and what is
+-- there is the file, whose one path this is
+abbrev pub IsFoundAt : Leads → List Map → List ℕ → List ℕ → Type 0
+IsFoundAt leads maps uri path = (place : List ℕ) × (is_mapped : Bool) × IsLocation maps uri place is_mapped × leads place path
+
+-- the text is a front of the bytes
+abbrev pub IsFront : List ℕ → List ℕ → Type 0
+IsFront bytes text = (n : ℕ) × (text ≡ take n bytes)

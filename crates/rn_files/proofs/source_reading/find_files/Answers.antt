@@ -1,0 +1,19 @@
+use Rattle.std.proofs.Common.{Option, subst}
+use Rattle.std.specs.Prelude.{IfSome}
+use Rattle.rn_files.specs.inside.Following.{IsRootOf}
+use Rattle.rn_files.specs.declared.root_folder.RootFolder.{RootFolder}
+use Rattle.rn_files.proofs.FilesRead.{within_none, within_some}
+use Rattle.rn_files.proofs.source_reading.find_files.Goals as goal
+
+pub returns-in-Some-root : goal.returns-in-Some-root
+returns-in-Some-root g c =
+    let leads = g.F.Files.leads c.args.files.now in
+    let named = c.in-Some-root.named in
+    let IsFound : Option RootFolder → Type 0 = λ o. IfSome o (IsRootOf leads named.now) in
+    within_some leads (g.F.Files.gives c.args.files.now) c.args.asked.now c.in_ok-files-in-Some-root.files.followed.items named c.in-Some-2.root
+    c.in-Some-root.is (subst IsFound c.in-Some-2.is c.in_ok-root-in-Some-root.ensures) c.in_ok-files-in-Some-root.ensures
+
+pub returns : goal.returns
+returns g c =
+    within_none (g.F.Files.leads c.args.files.now) (g.F.Files.gives c.args.files.now) c.args.asked.now c.in_ok-files-in-None.files.followed.items
+    c.in-None.is c.in_ok-files-in-None.ensures

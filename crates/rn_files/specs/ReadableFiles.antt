@@ -1,0 +1,72 @@
+-- Which files may be read where a root folder is given: those in that folder, those that a map finds in its own folder, and standard
+-- input. Where a file lies says its real path, and that is the one of what was opened, whatever lies at its path before and after.
+use Rattle.std.specs.Prelude.{◌≡◌, ◌⊎◌, ℕ, Bool, true, List, [], ◌++◌, nat_eq, codes, is_some, take, All, Option, Some, None, string_bytes, ⊤, if◌then◌else◌}
+use Rattle.std.specs.List.{ends_with}
+use Rattle.std.specs.Option.{option_copied}
+use Rattle.rn_files.specs.Maps.{IsLongest, behind_prefix}
+use Rattle.rn_files.specs.declared.maps.Map.{Map}
+use Rattle.rn_files.specs.declared.source_reading.ReadingFault.{ReadingFault}
+use Rattle.rn_files.specs.declared.source_reading.ReadingFault.TheVariants.{Faults, Memory}
+use Rattle.rn_files.specs.declared.sources.Asked.{Asked}
+use Rattle.rn_files.specs.declared.sources.SourceFile.{SourceFile}
+
+-- where the words of the command and the folders of maps lead: from a path to a real path
+abbrev pub Leads : Type 1
+Leads = List ℕ → List ℕ → Type 0
+
+-- what may be opened: at a path, a file with a real path and with bytes
+abbrev pub Gives : Type 1
+Gives = List ℕ → List ℕ → List ℕ → Type 0
+
+-- a file at the path, wherever that leads, has these bytes
+abbrev pub IsGiven : Gives → List ℕ → List ℕ → Type 0
+IsGiven gives path bytes = (real : List ℕ) × gives path real bytes
+
+-- what was read for a URI at a path: bytes
+abbrev pub Reads : Type 1
+Reads = List ℕ → List ℕ → List ℕ → Type 0
+
+-- the path is the folder's, or goes on behind that by whole segments
+abbrev pub lies_in : List ℕ → List ℕ → Bool
+lies_in folder path = is_some (behind_prefix path folder)
+
+-- the path of a folder, with a slash at its end
+abbrev pub with_slash : List ℕ → List ℕ
+with_slash folder = if ends_with nat_eq folder (codes "/") then folder else folder ++ codes "/"
+
+-- the file lies in the folder of the map that finds the URI: the one with the longest prefix
+abbrev pub LiesInMap : Leads → List Map → List ℕ → List ℕ → Type 0
+LiesInMap leads maps uri real = (named rest folder : List ℕ) × IsLongest maps uri named rest × leads named folder × (lies_in folder real ≡ true)
+
+-- what was opened at a path, where a URI led, and has this real path, may be read. The root folder is a real path with a slash at its
+-- end; without one each file may be read
+abbrev pub MayBeRead : Leads → Option (List ℕ) → List Map → List ℕ → List ℕ → List ℕ → Type 0
+MayBeRead leads None maps uri path real = ⊤
+MayBeRead leads (Some root) maps uri path real = (path ≡ codes "-") ⊎ ((lies_in root real ≡ true) ⊎ LiesInMap leads maps uri real)
+
+-- these bytes were read: what was opened at the path has them, and may be read
+abbrev pub IsReadAt : Leads → Gives → Option (List ℕ) → List Map → Reads
+IsReadAt leads gives root maps uri path bytes = (real : List ℕ) × gives path real bytes × MayBeRead leads root maps uri path real
+
+-- these bytes were read, where a root folder may be asked for by a path
+abbrev pub IsReadWithin : Leads → Gives → Option (List ℕ) → List Map → Reads
+IsReadWithin leads gives None maps uri path bytes = IsReadAt leads gives None maps uri path bytes
+IsReadWithin leads gives (Some named) maps uri path bytes =
+    (folder : List ℕ) × leads named folder × IsReadAt leads gives (Some (with_slash folder)) maps uri path bytes
+
+-- these bytes were read for what is asked for
+abbrev pub IsReadFor : Leads → Gives → Asked → Reads
+IsReadFor leads gives asked = IsReadWithin leads gives (option_copied asked.root) asked.maps.now
+
+-- the text of a source is what was read at its path
+abbrev pub IsReadSource : Reads → SourceFile → Type 0
+IsReadSource reads f = reads (string_bytes f.uri) (string_bytes f.path) (string_bytes f.text)
+
+-- the text is a front of what was read of a file, or nothing
+abbrev pub IsFrontOfRead : Reads → List ℕ → Type 0
+IsFrontOfRead reads text = (text ≡ []) ⊎ ((uri path bytes : List ℕ) × (n : ℕ) × reads uri path bytes × (text ≡ take n bytes))
+
+-- what is kept of files that are refused is such texts
+abbrev pub KeepsWhatIsRead : Reads → ReadingFault → Type 0
+KeepsWhatIsRead reads (Faults reading) = All (λ a. IsFrontOfRead reads (string_bytes a.text)) reading.files.items
+KeepsWhatIsRead reads Memory = ⊤

@@ -1,0 +1,163 @@
+// What a URI leads to: the file that lies there, or the fault that says why there is none.
+ghost use Rattle.std.specs.Prelude.{◌≡◌, IfOk, string_bytes};
+ghost use Rattle.rn_files.specs.Maps.{IsLocation};
+ghost use Rattle.rn_files.specs.inside.Following.{IsFoundAt};
+
+use crate::bounds::{Ways, is_hidden, may_be_read};
+use crate::files::{FileFault, Files, Kinds};
+use crate::maps::{Location, Map, locate};
+use crate::module_names::module_name;
+use crate::source_faults::SourceFaultKind;
+use crate::uri_references::ReferenceFault;
+use crate::walk::{FoundBy, FoundFile};
+use rn_modset::MAX_NAME;
+use std::alloc::{AllocError, Global};
+
+/// Why a word or a reference leads to no file.
+#[derive(Clone, Copy, Debug, PartialEq, Eq)]
+pub enum LinkFault {
+    /// The reference names no file.
+    Reference(ReferenceFault),
+    /// The file can't be read.
+    File(FileFault),
+    /// The file may not be read, since it lies outside of the root folder.
+    Outside,
+    /// The name of the file's module would be too long.
+    Name,
+    /// The file is one too many.
+    Count,
+    /// A request for memory was refused.
+    Memory,
+}
+
+impl LinkFault {
+    /// The fault as it is kept.
+    pub fn kind(self) -> SourceFaultKind {
+        match self {
+            LinkFault::Reference(fault) => SourceFaultKind::Reference(fault),
+            LinkFault::File(fault) => SourceFaultKind::File(fault),
+            LinkFault::Outside => SourceFaultKind::Outside,
+            LinkFault::Name => SourceFaultKind::Name,
+            LinkFault::Count => SourceFaultKind::Count,
+            LinkFault::Memory => SourceFaultKind::File(FileFault::Memory),
+        }
+    }
+}
+
+impl From<AllocError> for LinkFault {
+    fn from(_: AllocError) -> Self {
+        LinkFault::Memory
+    }
+}
+
+impl From<FileFault> for LinkFault {
+    fn from(fault: FileFault) -> Self {
+        match fault {
+            FileFault::Memory => LinkFault::Memory,
+            fault => LinkFault::File(fault),
+        }
+    }
+}
+
+impl From<ReferenceFault> for LinkFault {
+    fn from(fault: ReferenceFault) -> Self {
+        match fault {
+            ReferenceFault::Memory => LinkFault::Memory,
+            fault => LinkFault::Reference(fault),
+        }
+    }
+}
+
+/// How a path is told to people: from the current folder, where it lies below.
+fn shown_path<'p>(current: &str, path: &'p str) -> &'p str {
+    match path.strip_prefix(current) {
+        Some(rest) => rest.strip_prefix('/').unwrap_or(path),
+        None => path,
+    }
+}
+
+/// How a file that a reference led to was found.
+fn found_by(leads: &Location) -> FoundBy {
+    if leads.is_mapped {
+        FoundBy::Map
+    } else {
+        FoundBy::Path
+    }
+}
+
+/// Where a URI lies.
+fn location(alloc: Global, maps: &[Map], uri: &str) -> Result<Location, LinkFault>
+    ensures { IfOk result (λ leads.
+        IsLocation maps.now uri.now (string_bytes leads.path) leads.is_mapped) }
+{
+    Ok(locate(alloc, maps, uri)?)
+}
+
+/// What the name of a module is made from, as far as its reference says it: the URI that a map finds, or the path below
+/// the root folder as it is spelled.
+fn spelled_name<'n>(ways: &Ways<'_>, uri: &'n str, leads: &'n Location) -> Option<&'n str> {
+    if leads.is_mapped {
+        return Some(uri);
+    }
+    leads.path.strip_prefix(ways.root?.spelled.as_str())
+}
+
+/// Refuses a reference whose module would have too long a name, before anything is looked up.
+fn check_name(
+    alloc: Global,
+    ways: &Ways<'_>,
+    uri: &str,
+    leads: &Location,
+) -> Result<(), LinkFault> {
+    match spelled_name(ways, uri, leads) {
+        Some(spelled) if module_name(alloc, spelled)?.len() > MAX_NAME => Err(LinkFault::Name),
+        _ => Ok(()),
+    }
+}
+
+/// The real path of the file at a place to which a URI leads, which is no pipe, device or socket. Where there is no such
+/// file, and the way there may lead out of the folders whose files may be read, that is the fault.
+fn real_path<F: Files>(
+    alloc: Global,
+    files: &F,
+    ways: &Ways<'_>,
+    uri: &str,
+    place: &str,
+) -> Result<String, LinkFault>
+    ensures { IfOk result (λ path. F.leads files.now place.now (string_bytes path)) }
+{
+    match files.real_path(alloc, place, Kinds::Regular) {
+        Err(fault) if fault != FileFault::Memory && is_hidden(alloc, files, ways, uri, place)? => {
+            Err(LinkFault::Outside)
+        }
+        answer => Ok(answer?),
+    }
+}
+
+/// The file to which a URI leads, which may be read.
+pub fn found_at<F: Files>(
+    alloc: Global,
+    files: &F,
+    ways: &Ways<'_>,
+    uri: String,
+) -> Result<FoundFile, LinkFault>
+    ensures uri { IfOk result (λ file. string_bytes file.uri ≡ string_bytes uri) }
+    ensures led { IfOk result (λ file. IsFoundAt (F.leads files.now) ways.now.maps.now
+        (string_bytes uri) (string_bytes file.path)) }
+{
+    let leads = location(alloc, ways.maps, uri.as_str())?;
+    check_name(alloc, ways, uri.as_str(), &leads)?;
+    let path = real_path(alloc, files, ways, uri.as_str(), leads.path.as_str())?;
+    let shown = String::from_str(alloc, shown_path(ways.current, path.as_str()))?;
+    let by = found_by(&leads);
+    let found = FoundFile {
+        path,
+        shown,
+        uri,
+        by,
+    };
+    if !may_be_read(alloc, files, ways, &found, found.path.as_str())? {
+        return Err(LinkFault::Outside);
+    }
+    Ok(found)
+}
