@@ -53,6 +53,23 @@ if [ "$said" = --map ]; then pass; else fail "completed: $said"; fi
 said=$(bash -c 'source <("$1" bash rnc-merge); COMP_WORDS=(rnc-merge wi); COMP_CWORD=1; _rnc_merge; echo "${COMPREPLY[*]}"' - "$top/man/completions")
 if [ "$said" = withdraw ]; then pass; else fail "completed: $said"; fi
 
+# ---- the manual pages have no fault, and an entry for each line of rnc-merge
+for page in rnc-flat rnc-merge; do
+    if command -v mandoc >/dev/null; then
+        if [ -z "$(mandoc -T lint -W style "$top/man/$page.1")" ]; then pass; else fail "mandoc: $(mandoc -T lint -W style "$top/man/$page.1" | head -2)"; fi
+    fi
+    if command -v groff >/dev/null; then
+        if [ -z "$(groff -ww -man -z "$top/man/$page.1" 2>&1)" ]; then pass; else fail "groff: $(groff -ww -man -z "$top/man/$page.1" 2>&1 | head -2)"; fi
+    fi
+done
+for line in usage 'usage: REV' 'usage: \\-' read large write Memory BadName TooLong Full Encoding Lexical Deep Syntax Prefix Builtin ContextValue Except \
+    Conflict Missing Cycle Instances Override PlainTwice MixedMethods NoStart Undefined Recursive NameClass OutputTooLarge OutputTooDeep; do
+    if grep -qE "^\.B[IR]? \"?$line( |\"|$)" "$top/man/rnc-merge.1"; then pass; else fail "no entry: $line"; fi
+done
+for line in Magic Header Order Digest Truncated Trailing; do
+    if grep -qE "^\.BI \"bundle \" \"N \" $line" "$top/man/rnc-merge.1"; then pass; else fail "no entry: $line"; fi
+done
+
 # ---- the examples
 export RNC_FLAT=$program
 "$top/examples/run" >run.out 2>run.err
