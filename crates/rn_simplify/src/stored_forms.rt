@@ -30,6 +30,7 @@ impl ListKind {
     ghost use Rattle.rn_simplify.specs.inside.ListParts.{members_step};
 
     /// The id of the canonical form of a list of this kind, by the ids of the canonical forms of its parts.
+    #[inline(never)]
     fn form_over<P: Patterns>(self, store: &mut P, parts: &[P::Id]) -> Result<P::Id, AllocError>
         requires { KnowsAll (P.knows store.old) parts.now }
         ensures made { IfOk result (StandsFor (P.knows store.new) (P.tree_of store.new)
@@ -107,6 +108,7 @@ pub(crate) fn canonical_form<P: Patterns>(
 }
 
 /// The id of the canonical form of a pattern that has no other pattern in it and is no datatype.
+#[inline(never)]
 fn leaf_form<P: Patterns>(
     store: &mut P,
     settled: &SettledDefinitions<'_>,
@@ -226,6 +228,7 @@ fn push_whole<P: Patterns>(
 }
 
 /// The id of the canonical form of a pattern with a content, by the id of the canonical form of its content.
+#[inline(never)]
 fn form_over_content<P: Patterns>(
     store: &mut P,
     pattern: &Pattern,
