@@ -45,8 +45,7 @@ fn seed_of(texts: &BTreeSet<String>) -> Seed {
     Seed::of(&digest.finalize())
 }
 
-/// The most texts that are looked through one by one: of two texts mostly the lengths differ, while a hash takes all
-/// bytes.
+/// The most texts that are looked through one by one: mostly their lengths differ, while a hash takes all bytes.
 const FEW_TEXTS: usize = 64;
 
 /// The place of a text, counted from 1; the number of the texts if it isn't there.

@@ -1,5 +1,4 @@
-// The kind of the canonical form of each definition of a grammar, by its body and by those that the body refers to
-// outside elements.
+// The kind of each definition's canonical form, by its body and by those that the body refers to outside elements.
 ghost use Rattle.std.specs.Prelude.{◌≡◌, ◌<◌, ℕ, IfOk, OnOk, length, slice_index_or, slice_set};
 ghost use Rattle.rn_assemble.specs.GrammarView.{definitions_view, grammar_view};
 ghost use Rattle.rn_pattern.specs.Tree.{Tree};

@@ -17,8 +17,7 @@ use rn_pattern::graph::reached_nodes;
 use rn_pattern::{Pattern, Rows};
 use std::alloc::{AllocError, Global};
 
-/// The forms that the start reaches, in the order of their names. The forms have the names of the definitions, in their
-/// order.
+/// The forms that the start reaches, in the order of their names. All forms have the definitions' names, in order.
 pub(crate) fn reached_forms(
     alloc: Global,
     definitions: &Definitions,
