@@ -110,7 +110,8 @@ fn fronts_are_no_bundles(rt: HostRuntime) {
 
 #[test]
 fn a_bundle_of_annotations_is_truncated(rt: HostRuntime) {
-    let text = "@a\nnamespace sch = \"s\" sch:ns [ prefix = \"p\" ] [ sch:x = \"1\" ] start = element a { empty } >> sch:y [ \"z\" ]";
+    let text =
+        "@a\nnamespace sch = \"s\" sch:ns [ prefix = \"p\" ] [ sch:x = \"1\" ] start = element a { empty } >> sch:y [ \"z\" ]";
     let set = written_set(rt.alloc(), text).expect(&rt, "no set");
     let mut bytes = bundle(&rt, &set);
     bytes.pop();
