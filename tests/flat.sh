@@ -614,6 +614,7 @@ bad except_of_a_loop 1 "round.rnc:1:34: error: this stands for more than data, v
 
 # ---- the stack: what 256 open brackets take of it
 room stack
+stack=1024
 deep_texts
 nested deep-grammars 255 'start = ' 'grammar { start = ' text ' }' ''
 nested deep-grammars-of-elements 127 'start = element r { ' 'element a { grammar { start = ' text ' } }' ' }'

@@ -93,18 +93,18 @@ deep_texts() {
     nested deep-mixtures 85 'start = element r { ' 'element a { b, mixed { b, (b | ' b ')+ }* }*' " }$b"
 }
 
-# shallow NAME WORD..: with a stack of 512 KiB the program ends as it does with more, and writes what it writes with more.
+# shallow NAME WORD..: with a stack of $stack KiB, or 512, the program ends as it does with more, and writes what it writes with more.
 shallow() {
     local name=$1 whole got
     shift
     "$program" "$@" >"$work/wanted.out" 2>"$work/wanted.err"
     whole=$?
-    (ulimit -s 512 && exec "$program" "$@") >"$work/got.out" 2>"$work/got.err"
+    (ulimit -s "${stack:-512}" && exec "$program" "$@") >"$work/got.out" 2>"$work/got.err"
     got=$?
     if [ "$whole" -le 1 ] && [ "$got" -eq "$whole" ] && cmp -s "$work/got.out" "$work/wanted.out" && cmp -s "$work/got.err" "$work/wanted.err"; then
         pass
     else
-        fail "$name: status $whole, with a stack of 512 KiB $got: $(head -1 "$work/wanted.err")"
+        fail "$name: status $whole, with a stack of ${stack:-512} KiB $got: $(head -1 "$work/wanted.err")"
     fi
 }
 
