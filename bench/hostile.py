@@ -3,7 +3,7 @@
 
 bench/hostile.py SHAPE [twin] > BUNDLE: SHAPE is one of the functions named at the end, each of which says what it aims at. A twin has the same
 kind and size, and nothing in it is aimed. `rnc-merge print` of both is to take about the same time and memory.
-bench/hostile.py --run PROGRAM [--old PROGRAM] [--rounds N]: a table of all shapes beside their twins, and of two that have none, with medians of the
+bench/hostile.py --run PROGRAM [--old PROGRAM] [--rounds N]: a table of all shapes beside their twins, and of three that have none, with medians of the
 rounds (5). The old program runs once, and where any run takes more than 20 s, one is enough. Each run may have 8 GB.
 """
 import argparse
@@ -135,6 +135,12 @@ def components(twin):
     return modules
 
 
+def instances(twin):
+    """80,000 definitions, each of a name of its own, which 500 includes bring in: 40 million members, and 500 of each name."""
+    definitions = "\n".join(f"n{i:05d} |= text" for i in range(80000))
+    return {"a": definitions, "driver": "start = text\n" + "\n".join('include "a"' for _ in range(1 if twin else 500))}
+
+
 def interleaves(twin):
     """20,000 definitions of one name, interleaved, which 511 includes bring in."""
     modules = {"a": "\n".join("x &= text" for _ in range(20000)), "driver": "start = x\n" + "\n".join('include "a"' for _ in range(1 if twin else 511))}
@@ -142,7 +148,7 @@ def interleaves(twin):
 
 
 TWINNED = (definitions, prefixes, namespaces, literals, parentheses, interleaved, names, includes, uri, libraries)
-SHAPES = {shape.__name__: shape for shape in (*TWINNED, components, interleaves)}
+SHAPES = {shape.__name__: shape for shape in (*TWINNED, components, instances, interleaves)}
 MEMORY = 8 << 30
 
 

@@ -74,9 +74,9 @@ if cat in/sub/x.rnc | "$program" --root in in/m.rnc >got.out 2>got.err; then fai
 if [ "$(head -1 got.err)" = "in/m.rnc:1:9: error: $outside" ]; then pass; else fail "a pipe by a link: $(head -1 got.err)"; fi
 rm got.out got.err
 # what lies below the root folder is told as it is
-refused 'missing below the root' 3 'no such file' none.rnc --root in
-refused 'missing below a folder of the root' 3 'no such file' sub/none.rnc --root in
-refused 'folder below the root' 3 'this is a folder' sub --root in
+refused 'missing below the root' 3 'in/none.rnc: no such file' none.rnc --root in
+refused 'missing below a folder of the root' 3 'in/sub/none.rnc: no such file' sub/none.rnc --root in
+refused 'folder below the root' 3 'in/sub: this is a folder' sub --root in
 # links may lead from place to place below the root, and from a map into it; without a root anywhere
 included 'a link within the root' inner/x.rnc --root in
 included 'a link from the map into the root' http://m/x.rnc --root in --map http://m/=map
@@ -94,9 +94,9 @@ for literal in there.rnc broken.rnc out/none.rnc out/there.rnc; do
     ln -sn ../out map/out 2>/dev/null
     refused "out of the map: $literal" 1 "$outside" "http://m/$literal" --root in --map http://m/=map
 done
-refused 'missing below the map' 3 'no such file' http://m/none.rnc --root in --map http://m/=map
+refused 'missing below the map' 3 'map/none.rnc: no such file' http://m/none.rnc --root in --map http://m/=map
 # a root folder that isn't there: nothing is read
-row 'no root folder' 3 '' 'rnc-flat: error: the folder of --root: no such file\n' --root none out/there.rnc
+row 'no root folder' 3 '' 'rnc-flat: error: none: no such file\n' --root none out/there.rnc
 row 'an argument outside' 1 '' "rnc-flat: error: out/there.rnc: $outside\n" --root in out/there.rnc
 chmod 700 out/locked
 
@@ -144,15 +144,15 @@ printf '#!/bin/sh\nexec timeout 20 "%s" "$@"\n' "$program" >"$work/timed"
 chmod +x "$work/timed"
 untimed=$program
 program=$work/timed
-refused 'a pipe' 3 "$special" p.fifo
-refused 'a pipe and a root' 3 "$special" p.fifo --root in
-refused 'a pipe that a map finds' 3 "$special" http://m/p.fifo --map http://m/=in
-refused 'a link to a pipe' 3 "$special" link.fifo
-refused 'a device' 3 "$special" /dev/zero
-refused 'a terminal' 3 "$special" /dev/ptmx
+refused 'a pipe' 3 "in/p.fifo: $special" p.fifo
+refused 'a pipe and a root' 3 "in/p.fifo: $special" p.fifo --root in
+refused 'a pipe that a map finds' 3 "in/p.fifo: $special" http://m/p.fifo --map http://m/=in
+refused 'a link to a pipe' 3 "in/link.fifo: $special" link.fifo
+refused 'a device' 3 "/dev/zero: $special" /dev/zero
+refused 'a terminal' 3 "/dev/ptmx: $special" /dev/ptmx
 if command -v python3 >/dev/null; then
     python3 -c 'import socket; socket.socket(socket.AF_UNIX).bind("in/s.sock")'
-    refused 'a socket' 3 "$special" s.sock
+    refused 'a socket' 3 "in/s.sock: $special" s.sock
 fi
 printf 'start = text\n' >in/m.rnc
 row 'a pipe as an argument' 0 "$schema" '' <(cat in/m.rnc)
@@ -205,7 +205,7 @@ echo old >open/flat.rnc
 chmod 444 open/flat.rnc
 if as_user test -x "$program" && as_user test -r "$PWD/a.rnc"; then
     as_user "$program" -o open/flat.rnc a.rnc >got.out 2>got.err
-    if [ $? -eq 3 ] && [ "$(cat got.err)" = "rnc-flat: error: open/flat.rnc can't be written" ] && [ "$(cat open/flat.rnc)" = old ]; then pass; else fail "mode 444: $(cat got.err)"; fi
+    if [ $? -eq 3 ] && [ "$(cat got.err)" = "rnc-flat: error: open/flat.rnc can't be written: permission denied" ] && [ "$(cat open/flat.rnc)" = old ]; then pass; else fail "mode 444: $(cat got.err)"; fi
 fi
 rm -rf open got.out got.err
 # a text of a megabyte
@@ -217,7 +217,7 @@ rm -rf open got.out got.err
 # a full disk
 if [ "$(id -u)" -eq 0 ] && mkdir disk && mount -t tmpfs -o size=64k none disk 2>/dev/null; then
     echo old >disk/flat.rnc
-    row 'a full disk' 3 '' "rnc-flat: error: disk/flat.rnc can't be written\n" -o disk/flat.rnc large.rnc
+    row 'a full disk' 3 '' "rnc-flat: error: disk/flat.rnc can't be written: no space is left\n" -o disk/flat.rnc large.rnc
     if [ "$(ls -A disk)" = flat.rnc ] && [ "$(cat disk/flat.rnc)" = old ]; then pass; else fail "a full disk: $(ls -A disk)"; fi
     umount disk
 fi

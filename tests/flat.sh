@@ -90,6 +90,7 @@ row rng_and_graph 2 '' "error: --rng can't be given with --graph$hint" --rng --g
 row rng_to_compact 2 '' "error: a file that ends in .rng holds the XML syntax, which --rng writes$hint" -o flat.rng a.rnc
 row rng_checked_as_compact 2 '' "error: a file that ends in .rng holds the XML syntax, which --rng writes$hint" --check flat.rng a.rnc
 row rng_for_bundle 2 '' "error: a file that ends in .rng holds the XML syntax, which --rng writes$hint" --bundle -o flat.rng a.rnc
+row file_without_name 2 '' "error: a FILE needs a name$hint" ""
 row map_without_folder 2 '' "error: the value of --map must be PREFIX=FOLDER$hint" --map http://x/ a.rnc
 row map_without_prefix 2 '' "error: the value of --map must be PREFIX=FOLDER$hint" --map =x a.rnc
 row map_to_nothing 2 '' "error: the value of --map must be PREFIX=FOLDER$hint" --map http://x/= a.rnc
@@ -117,7 +118,7 @@ row includes 0 "$flat" '' main.rnc
 row from_elsewhere 0 "$flat" '' ../folder/main.rnc
 row absolute 0 "$flat" '' "$PWD/main.rnc"
 row list 0 'lib/name.rnc lib/name.rnc\nmain.rnc main.rnc\n' '' --list main.rnc
-row graph 0 'digraph schema {\n    "main.rnc";\n    "lib/name.rnc";\n    "main.rnc" -> "lib/name.rnc";\n}\n' '' --graph main.rnc
+row graph 0 'digraph schema {\n    rankdir=LR;\n    "main.rnc";\n    "lib/name.rnc";\n    "main.rnc" -> "lib/name.rnc";\n}\n' '' --graph main.rnc
 digest() {
     printf '%b' "$1" | sha256sum | cut -d ' ' -f 1
 }
@@ -149,12 +150,12 @@ ln -s target/real.rnc link.rnc
 row output_link 0 '' '' -o link.rnc a.rnc
 holds output_link_bytes target/real.rnc "$schema"
 if [ -L link.rnc ]; then pass; else fail 'output_link: the link is gone'; fi
-row output_nowhere 3 '' "rnc-flat: error: none/flat.rnc can't be written\n" -o none/flat.rnc a.rnc
-row output_folder 3 '' "rnc-flat: error: target can't be written\n" -o target a.rnc
+row output_nowhere 3 '' "rnc-flat: error: none/flat.rnc can't be written: no such file or folder\n" -o none/flat.rnc a.rnc
+row output_folder 3 '' "rnc-flat: error: target can't be written: this is a folder\n" -o target a.rnc
 row output_device 0 '' '' -o /dev/null a.rnc
 if [ -c /dev/null ]; then pass; else fail 'output_device: it is gone'; fi
 ln -s nowhere.rnc loose.rnc
-row output_loose_link 3 '' "rnc-flat: error: loose.rnc can't be written\n" -o loose.rnc a.rnc
+row output_loose_link 3 '' "rnc-flat: error: loose.rnc can't be written: no such file or folder\n" -o loose.rnc a.rnc
 if [ -L loose.rnc ] && [ ! -e nowhere.rnc ]; then pass; else fail 'output_loose_link: it is gone, or was followed'; fi
 ln -s /proc/self/fd/1 pipe
 "$program" -o pipe a.rnc | cat >"$work/got.pipe"
@@ -165,7 +166,7 @@ alone output_leaves_nothing a.rnc bad.rnc flat.rnc link.rnc target
 row output_list 0 '' '' --list -o list a.rnc
 holds output_list_bytes list 'a.rnc a.rnc\n'
 "$program" a.rnc >/dev/full 2>got.err
-if [ $? -eq 3 ] && [ "$(cat got.err)" = "rnc-flat: error: standard output can't be written" ]; then pass; else fail "output_full: $(cat got.err)"; fi
+if [ $? -eq 3 ] && [ "$(cat got.err)" = "rnc-flat: error: standard output can't be written: no space is left" ]; then pass; else fail "output_full: $(cat got.err)"; fi
 
 # ---- --check
 room check
@@ -176,24 +177,24 @@ input=flat.rnc
 row check_input 0 '' '' --check - a.rnc
 input=/dev/null
 printf 'default namespace = ""\nstart = element b { empty }\n' >other.rnc
-row check_other 1 '' 'other.rnc:2:17: error: this is not the schema, which has here: start = element a { empty }\n    start = element b { empty }\n                    ^\n' --check other.rnc a.rnc
+row check_other 1 '' 'other.rnc:2:17: error: this is not the schema, which has here: start = element a { empty }\n    start = element b { empty }\n                    ^\nrnc-flat: error: lines of the file that the schema lacks: 1, lines of the schema that the file lacks: 1; -o other.rnc in place of --check other.rnc writes the schema\n' --check other.rnc a.rnc
 printf 'default namespace = ""\n' >short.rnc
-row check_short 1 '' 'short.rnc:2:1: error: this is not the schema, which has here: start = element a { empty }\n' --check short.rnc a.rnc
+row check_short 1 '' 'short.rnc:2:1: error: this is not the schema, which has here: start = element a { empty }\nrnc-flat: error: lines of the file that the schema lacks: 0, lines of the schema that the file lacks: 1; -o short.rnc in place of --check short.rnc writes the schema\n' --check short.rnc a.rnc
 printf '%bmore\n' "$schema" >long.rnc
-row check_long 1 '' 'long.rnc:3:1: error: this is not the schema, which ends before this line\n    more\n    ^\n' --check long.rnc a.rnc
+row check_long 1 '' 'long.rnc:3:1: error: this is not the schema, which ends before this line\n    more\n    ^\nrnc-flat: error: lines of the file that the schema lacks: 1, lines of the schema that the file lacks: 0; -o long.rnc in place of --check long.rnc writes the schema\n' --check long.rnc a.rnc
 : >empty.rnc
-row check_empty 1 '' 'empty.rnc:1:1: error: this is not the schema, which has here: default namespace = ""\n' --check empty.rnc a.rnc
+row check_empty 1 '' 'empty.rnc:1:1: error: this is not the schema, which has here: default namespace = ""\nrnc-flat: error: lines of the file that the schema lacks: 0, lines of the schema that the file lacks: 2; -o empty.rnc in place of --check empty.rnc writes the schema\n' --check empty.rnc a.rnc
 printf 'default namespace = ""\r\nstart = element a { empty }\r\n' >dos.rnc
 begins check_line_ends 1 'dos.rnc:1:23: error: this is not the schema, which has here: default namespace = ""' --check dos.rnc a.rnc
 # the 216th character of a long line differs: 80 before it are shown, of the schema's line too
 printf 'start = element %s { empty }\n' "$(printf 'n%.0s' $(seq 200))" >name.rnc
 printf 'default namespace = ""\nstart = element %sm { empty }\n' "$(printf 'n%.0s' $(seq 199))" >far.rnc
 front=$(printf 'n%.0s' $(seq 80))
-row check_far 1 '' "far.rnc:2:216: error: this is not the schema, which has here: ${front}n { empty }\n    ${front}m { empty }\n    $(printf '%80s' '')^\n" --check far.rnc name.rnc
+row check_far 1 '' "far.rnc:2:216: error: this is not the schema, which has here: ${front}n { empty }\n    ${front}m { empty }\n    $(printf '%80s' '')^\nrnc-flat: error: lines of the file that the schema lacks: 1, lines of the schema that the file lacks: 1; -o far.rnc in place of --check far.rnc writes the schema\n" --check far.rnc name.rnc
 # the second byte of a character differs: the place is where the character begins
 printf 'start = element \303\251 { empty }\n' >acute.rnc
 printf 'default namespace = ""\nstart = element \303\250 { empty }\n' >grave.rnc
-row check_character 1 '' 'grave.rnc:2:17: error: this is not the schema, which has here: start = element \303\251 { empty }\n    start = element \303\250 { empty }\n                    ^\n' --check grave.rnc acute.rnc
+row check_character 1 '' 'grave.rnc:2:17: error: this is not the schema, which has here: start = element \303\251 { empty }\n    start = element \303\250 { empty }\n                    ^\nrnc-flat: error: lines of the file that the schema lacks: 1, lines of the schema that the file lacks: 1; -o grave.rnc in place of --check grave.rnc writes the schema\n' --check grave.rnc acute.rnc
 row check_missing 3 '' 'rnc-flat: error: none.rnc: no such file\n' --check none.rnc a.rnc
 alone check_writes_nothing a.rnc flat.rnc other.rnc short.rnc long.rnc empty.rnc dos.rnc name.rnc far.rnc acute.rnc grave.rnc
 
@@ -215,8 +216,8 @@ row rng_input 0 "$xml" '' --rng -
 input=/dev/null
 row rng_again 0 "$xml" '' --rng flat.rnc
 sed 's/int/integer/' flat.rng >other.rng
-row rng_check_other 1 '' 'other.rng:14:22: error: this is not the schema, which has here:       <data type="int"/>\n          <data type="integer"/>\n                         ^\n' --rng --check other.rng a.rnc
-row rng_check_compact 1 '' 'flat.rnc:1:1: error: this is not the schema, which has here: <?xml version="1.0" encoding="UTF-8"?>\n    default namespace = ""\n    ^\n' --rng --check flat.rnc a.rnc
+row rng_check_other 1 '' 'other.rng:14:22: error: this is not the schema, which has here:       <data type="int"/>\n          <data type="integer"/>\n                         ^\nrnc-flat: error: lines of the file that the schema lacks: 1, lines of the schema that the file lacks: 1; -o other.rng in place of --check other.rng writes the schema\n' --rng --check other.rng a.rnc
+row rng_check_compact 1 '' 'flat.rnc:1:1: error: this is not the schema, which has here: <?xml version="1.0" encoding="UTF-8"?>\n    default namespace = ""\n    ^\nrnc-flat: error: lines of the file that the schema lacks: 4, lines of the schema that the file lacks: 18; -o flat.rnc in place of --check flat.rnc writes the schema\n' --rng --check flat.rnc a.rnc
 row rng_missing 3 '' 'rnc-flat: error: none.rnc: no such file\n' --rng none.rnc
 printf 'start = x\n' >undefined.rnc
 row rng_refused 1 '' 'undefined.rnc:1:9: error: `x` is not defined\n    start = x\n            ^\n' --rng undefined.rnc
@@ -232,6 +233,63 @@ row rng_long 1 '' 'rnc-flat: error: the flat schema would have more than 67,108,
 row rng_long_output 1 '' 'rnc-flat: error: the flat schema would have more than 67,108,864 bytes in the XML syntax\n' --rng -o long.rng long.rnc
 alone rng_writes_no_more a.rnc b.rnc flat.rng flat.rng.part flat.rnc other.rng undefined.rnc long.rnc
 
+
+# ---- files in the XML syntax
+room read-xml
+rng='xmlns="http://relaxng.org/ns/structure/1.0"'
+xsd='datatypeLibrary="http://www.w3.org/2001/XMLSchema-datatypes"'
+printf 'include "b.rng"\nstart = element a { b, external "c.rng" }\n' >a.rnc
+printf '<grammar %s>\n  <define name="b" combine="choice"><element name="b" ns="u"><data type="int" %s/></element></define>\n  <include href="d.rnc"/>\n</grammar>\n' "$rng" "$xsd" >b.rng
+printf '<element %s name="c"><optional><attribute name="d"/></optional><text/></element>\n' "$rng" >c.rng
+printf 'b |= element e { empty }\n' >d.rnc
+printf 'namespace u = "u"\nstart = element a { (element u:b { xsd:int } | element e { empty }), element c { attribute d { text }?, text } }\n' >flat.rnc
+"$program" flat.rnc >flat.out
+"$program" --rng flat.rnc >flat.rng
+row read_what_was_written 0 "$(cat flat.out)\n" '' flat.rng
+row read_what_was_written_as_xml 0 "$(cat flat.rng)\n" '' --rng flat.rng
+input=flat.rng
+row read_xml_input 0 "$(cat flat.out)\n" '' -
+input=/dev/null
+cp flat.rng other.name
+row read_xml_of_any_name 0 "$(cat flat.out)\n" '' other.name
+{ printf '\357\273\277 \n'; sed 1d flat.rng; } >mark.rng
+row read_xml_behind_a_mark 0 "$(cat flat.out)\n" '' mark.rng
+sed 's/UTF-8/UTF-16/' flat.rng | python3 -c 'import sys; sys.stdout.buffer.write(sys.stdin.read().encode("utf-16"))' >wide.rng
+row read_xml_of_utf_16 0 "$(cat flat.out)\n" '' wide.rng
+printf '<?xml version="1.0" encoding="ISO-8859-1"?>\n<element %s name="\351"><text/></element>\n' "$rng" >latin.rng
+printf 'start = element \303\251 { text }\n' >latin.rnc
+"$program" latin.rnc >latin.out
+row read_xml_of_latin_1 0 "$(cat latin.out)\n" '' latin.rng
+# the same files in the compact syntax, under the same names
+mkdir twins
+cp a.rnc d.rnc twins
+printf 'namespace u = "u" b |= element u:b { xsd:int } include "d.rnc"\n' >twins/b.rng
+printf 'element c { attribute d { text }?, text }\n' >twins/c.rng
+"$program" a.rnc >mixed.out
+"$program" twins/a.rnc >twins.out
+same read_mixed mixed.out twins.out
+(cd twins && "$program" --list a.rnc) >twins.list
+"$program" --list a.rnc >mixed.list
+same read_mixed_list mixed.list twins.list
+printf '<grammar %s ns="u"><start><element name="a"><text/></element></start></grammar>\n' "$rng" >one.rng
+mkdir packed
+printf 'default namespace = "u"\nstart = element a { text }\n' >packed/one.rng
+"$program" --bundle one.rng >one.set
+"$program" --bundle packed/one.rng >packed.set
+same read_bundle one.set packed.set
+printf '<grammar %s>\n  <start><ref name="x"/></start>\n</grammar>\n' "$rng" >undefined.rng
+bad read_undefined 1 'undefined.rng:2:21: error: `x` is not defined\n      <start><ref name="x"/></start>\n                        ^\n' undefined.rng
+printf '<grammar %s>\n  <start><foo/></start>\n</grammar>\n' "$rng" >element.rng
+bad read_element 1 'element.rng:2:10: error: `foo` is no element of RELAX NG\n      <start><foo/></start>\n             ^\n' element.rng
+printf '<grammar %s>\n  <include href="none.rng"/>\n</grammar>\n' "$rng" >missing.rng
+bad read_missing 3 'missing.rng:2:18: error: none.rng: no such file\n      <include href="none.rng"/>\n                     ^\n' missing.rng
+printf '<html/>\n' >html.rng
+bad read_html 1 'html.rng:1:1: error: this is no RELAX NG schema: its root is `html` of the namespace ""\n    <html/>\n    ^\n' html.rng
+printf '<grammar %s>\n  <start combine="choice"><text/></start>\n  <start combine="interleave"><text/></start>\n</grammar>\n' "$rng" >methods.rng
+bad read_methods 1 'methods.rng:2:3: error: `start` is combined by choice here, and by interleave in methods.rng:3:3\n      <start combine="choice"><text/></start>\n      ^\n' methods.rng
+printf '<grammar %s>\n  <start>\n    <data type="foo"/>\n  </start>\n</grammar>\n' "$rng" >builtin.rng
+bad read_builtin 1 'builtin.rng:3:17: error: without a datatype library there are only `string` and `token`, without parameters\n        <data type="foo"/>\n                    ^\n' builtin.rng
+
 # ---- maps
 room maps
 mkdir -p local/deep other
@@ -246,7 +304,7 @@ row map_longest 0 'default namespace = ""\nstart = name\nname = element name { e
     --map http://example.org/schema/=local --map http://example.org/schema/deep/=other main.rnc
 row map_names 0 'http://example.org/schema/deep/text.rnc local/deep/text.rnc\nhttp://example.org/schema/name.rnc local/name.rnc\nmain.rnc main.rnc\n' '' \
     --list --map http://example.org/schema/=local main.rnc
-row no_map 1 '' 'main.rnc:1:9: error: no map says where the URI lies\n    include "http://example.org/schema/name.rnc"\n            ^\n' main.rnc
+row no_map 1 '' 'main.rnc:1:9: error: no map says where http://example.org/schema/name.rnc lies\n    include "http://example.org/schema/name.rnc"\n            ^\n' main.rnc
 
 # ---- the whole language
 room language
@@ -260,7 +318,7 @@ for file in external.rnc note.rnc pattern.rnc nested.rnc; do
     if "$program" "$file" >got.out 2>got.err && grep -q '^start = ' got.out; then pass; else fail "language $file: $(head -1 got.err)"; fi
 done
 row pattern_root 0 'default namespace = ""\nstart = element note { text }\n' '' note.rnc
-row graph_external 0 'digraph schema {\n    "pattern.rnc";\n    "note.rnc";\n    "pattern.rnc" -> "note.rnc" [style=dashed];\n}\n' '' --graph pattern.rnc
+row graph_external 0 'digraph schema {\n    rankdir=LR;\n    "pattern.rnc";\n    "note.rnc";\n    "pattern.rnc" -> "note.rnc" [style=dashed];\n}\n' '' --graph pattern.rnc
 
 printf 'start = element doc { external "faulty.rnc" }\n' >own.rnc
 printf 'start = element a { missing }\n' >faulty.rnc
@@ -297,6 +355,29 @@ several=
 for n in $(seq 10 29); do several="${several}several.rnc:$((n - 8)):7: error: \`u$n\` is not defined\n    d$n = u$n\n          ^\n"; done
 row scopes_many 1 '' "${several}rnc-flat: note: there are more faults, which are not told: 5\n" scopes.rnc
 
+# ---- paths: from the current folder, or all from the topmost one where that is what the words say
+room paths
+mkdir -p schema/lib build/deep
+printf 'include "lib/name.rnc"\ninclude "lib/more.rnc"\nstart = name\n' >schema/main.rnc
+printf 'name = text, other\n' >schema/lib/name.rnc
+printf 'more |= element more { empty }\nmore &= empty\n' >schema/lib/more.rnc
+shown() {
+    printf '%smore.rnc:1:1: error: `more` is combined by |= here, and by &= in %smore.rnc:2:1\n    more |= element more { empty }\n    ^\n' "$1" "$1"
+    printf '%sname.rnc:1:14: error: `other` is not defined\n    name = text, other\n                 ^\n' "$1"
+}
+here=$PWD
+row paths_below 1 '' "$(shown schema/lib/)\n" schema/main.rnc
+cd build/deep || exit 2
+row paths_beside 1 '' "$(shown ../../schema/lib/)\n" ../../schema/main.rnc
+row paths_absolute 1 '' "$(shown "$here/schema/lib/")\n" "$here/schema/main.rnc"
+row paths_listed 0 'lib/more.rnc ../../schema/lib/more.rnc\nlib/name.rnc ../../schema/lib/name.rnc\nmain.rnc ../../schema/main.rnc\n' '' --list ../../schema/main.rnc
+row paths_listed_absolute 0 "lib/more.rnc $here/schema/lib/more.rnc\nlib/name.rnc $here/schema/lib/name.rnc\nmain.rnc $here/schema/main.rnc\n" '' \
+    --list "$here/schema/main.rnc"
+cd / || exit 2
+row paths_from_the_top 0 "lib/more.rnc ${here#/}/schema/lib/more.rnc\nlib/name.rnc ${here#/}/schema/lib/name.rnc\nmain.rnc ${here#/}/schema/main.rnc\n" '' \
+    --list "${here#/}/schema/main.rnc"
+cd "$here/schema" || exit 2
+row paths_in_folder 1 '' "$(shown lib/)\n" main.rnc
 # ---- a refusal of each kind, with its places
 room sentences
 mkdir extensions
@@ -377,13 +458,13 @@ if [ $? -le 1 ]; then pass; else fail "deep: $(head -1 got.err)"; fi
 # ---- faults of texts, of all files
 room texts
 printf 'start = element a { text\n' >syntax.rnc
-row syntax_end 1 '' 'syntax.rnc:1:25: error: the schema ends too early\n    start = element a { text\n                            ^\n' syntax.rnc
+row syntax_end 1 '' 'syntax.rnc:1:25: error: the schema ends too early; `}` is expected\n    start = element a { text\n                            ^\n' syntax.rnc
 printf 'start = element a { , }\n' >comma.rnc
-row syntax 1 '' 'comma.rnc:1:21: error: `,` can'"'"'t stand here\n    start = element a { , }\n                        ^\n' comma.rnc
+row syntax 1 '' 'comma.rnc:1:21: error: `,` can'"'"'t stand here; a pattern is expected\n    start = element a { , }\n                        ^\n' comma.rnc
 printf '\tstart = element a { ; }\n' >lexical.rnc
 row lexical 1 '' 'lexical.rnc:1:22: error: nothing that the compact syntax has begins like this\n    \tstart = element a { ; }\n    \t                    ^\n' lexical.rnc
 printf 'start = element p:a { text }\n' >prefix.rnc
-begins prefix 1 'prefix.rnc:1:17: error: this prefix is not declared, is declared twice, or may not be bound to this; or this is a second default namespace' prefix.rnc
+begins prefix 1 'prefix.rnc:1:17: error: the prefix `p` is not declared' prefix.rnc
 printf 'datatypes d = ""\nstart = element a { d:integer }\n' >builtin.rnc
 begins builtin 1 'builtin.rnc:2:21: error: without a datatype library there are only `string` and `token`, without parameters' builtin.rnc
 printf 'start = element a { xsd:QName "a" }\n' >context.rnc
@@ -399,7 +480,7 @@ begins encoding 1 'bytes.rnc:2:3: error: the file is not UTF-8 from here on' byt
 } >brackets.rnc
 begins brackets 1 'brackets.rnc:1:265: error: more than 256 brackets are open here' brackets.rnc
 printf 'start = "\344\270\226\347\225\214", ;\n' >wide.rnc
-row columns_count_characters 1 '' 'wide.rnc:1:15: error: nothing that the compact syntax has begins like this\n    start = "\344\270\226\347\225\214", ;\n                  ^\n' wide.rnc
+row columns_count_characters 1 '' 'wide.rnc:1:15: error: nothing that the compact syntax has begins like this\n    start = "\344\270\226\347\225\214", ;\n                    ^\n' wide.rnc
 # of a longer line 80 characters are shown before the place: here the fault is behind 8 and 30 times 7 characters
 {
     printf 'start = '
@@ -408,22 +489,22 @@ row columns_count_characters 1 '' 'wide.rnc:1:15: error: nothing that the compac
 } >wider.rnc
 row long_line 1 '' "wider.rnc:1:219: error: nothing that the compact syntax has begins like this\n     | $(printf 'text | %.0s' $(seq 11));\n    $(printf '%80s' '')^\n" wider.rnc
 printf 'start = element a { text }\n\nx = \033[31m\n' >escape.rnc
-row terminal 1 '' 'escape.rnc:3:5: error: nothing that the compact syntax has begins like this\n    x = ?[31m\n        ^\n' escape.rnc
+row terminal 1 '' 'escape.rnc:3:5: error: XML does not allow this control character\n    x = ?[31m\n        ^\n' escape.rnc
 
 # ---- all faults are told, in the order of the names of files and of their texts
-comma_lines='comma.rnc:1:21: error: `,` can'"'"'t stand here\n    start = element a { , }\n                        ^\n'
+comma_lines='comma.rnc:1:21: error: `,` can'"'"'t stand here; a pattern is expected\n    start = element a { , }\n                        ^\n'
 lexical_lines='lexical.rnc:1:22: error: nothing that the compact syntax has begins like this\n    \tstart = element a { ; }\n    \t                    ^\n'
-prefix_lines='prefix.rnc:1:17: error: this prefix is not declared, is declared twice, or may not be bound to this; or this is a second default namespace\n    start = element p:a { text }\n                    ^\n'
+prefix_lines='prefix.rnc:1:17: error: the prefix `p` is not declared\n    start = element p:a { text }\n                    ^\n'
 builtin_lines='builtin.rnc:2:21: error: without a datatype library there are only `string` and `token`, without parameters\n    start = element a { d:integer }\n                        ^\n'
 except_lines='except.rnc:1:32: error: only data, values and choices of them can be excepted from data\n    start = element a { xsd:string - text }\n                                   ^\n'
 printf 'include "none.rnc"\ninclude "lexical.rnc"\ninclude "comma.rnc"\nstart = text\n' >several.rnc
-bad several 3 "$comma_lines$lexical_lines"'several.rnc:1:9: error: no such file\n    include "none.rnc"\n            ^\n' several.rnc
+bad several 3 "$comma_lines$lexical_lines"'several.rnc:1:9: error: none.rnc: no such file\n    include "none.rnc"\n            ^\n' several.rnc
 printf 'include "prefix.rnc"\ninclude "except.rnc"\ninclude "builtin.rnc"\n' >checked.rnc
 bad checked 1 "$builtin_lines$except_lines$prefix_lines" checked.rnc
 printf 'include "prefix.rnc"\ninclude "comma.rnc"\n' >both.rnc
 bad both 1 "$comma_lines$prefix_lines" both.rnc
 printf 'include "http://x/y"\ninclude "none.rnc"\ninclude "prefix.rnc"\nstart = element p:a { text }\ninclude "%%"\n' >links.rnc
-bad links 3 'rnc-flat: error: nowhere.rnc: no such file\nlinks.rnc:1:9: error: no map says where the URI lies\n    include "http://x/y"\n            ^\nlinks.rnc:2:9: error: no such file\n    include "none.rnc"\n            ^\nlinks.rnc:4:17: error: this prefix is not declared, is declared twice, or may not be bound to this; or this is a second default namespace\n    start = element p:a { text }\n                    ^\nlinks.rnc:5:9: error: a % is not followed by two hexadecimal digits\n    include "%"\n            ^\n'"$prefix_lines" links.rnc nowhere.rnc
+bad links 3 'rnc-flat: error: nowhere.rnc: no such file\nlinks.rnc:1:9: error: no map says where http://x/y lies\n    include "http://x/y"\n            ^\nlinks.rnc:2:9: error: none.rnc: no such file\n    include "none.rnc"\n            ^\nlinks.rnc:4:17: error: the prefix `p` is not declared\n    start = element p:a { text }\n                    ^\nlinks.rnc:5:9: error: a % is not followed by two hexadecimal digits\n    include "%"\n            ^\n'"$prefix_lines" links.rnc nowhere.rnc
 printf 'start = parent x\n' >lifted.rnc
 bad lifted 1 'lifted.rnc:1:9: error: there is no grammar around this one that parent could mean\n    start = parent x\n            ^\n'"$prefix_lines" prefix.rnc lifted.rnc
 {
@@ -431,7 +512,7 @@ bad lifted 1 'lifted.rnc:1:9: error: there is no grammar around this one that pa
     echo 'start = text'
 } >thirty.rnc
 thirty=
-for n in $(seq 20); do thirty="${thirty}thirty.rnc:$n:9: error: no such file\n    include \"none$n.rnc\"\n            ^\n"; done
+for n in $(seq 20); do thirty="${thirty}thirty.rnc:$n:9: error: none$n.rnc: no such file\n    include \"none$n.rnc\"\n            ^\n"; done
 bad thirty 3 "${thirty}rnc-flat: note: there are more faults, which are not told: 10\n" thirty.rnc
 {
     printf 'include "prefix.rnc"\n'
@@ -439,7 +520,7 @@ bad thirty 3 "${thirty}rnc-flat: note: there are more faults, which are not told
     echo 'start = text'
 } >twenty.rnc
 twenty=
-for n in $(seq 20); do twenty="${twenty}twenty.rnc:$((n + 1)):9: error: no such file\n    include \"none$n.rnc\"\n            ^\n"; done
+for n in $(seq 20); do twenty="${twenty}twenty.rnc:$((n + 1)):9: error: none$n.rnc: no such file\n    include \"none$n.rnc\"\n            ^\n"; done
 bad twenty_one 3 "$prefix_lines$(printf '%s' "$twenty" | sed 's/twenty.rnc:21:9.*//')rnc-flat: note: there are more faults, which are not told: 1\n" twenty.rnc
 
 # ---- all refusals of a kind that can be found, in the order in which they are tested; the first is what rnc-merge answers
@@ -474,7 +555,7 @@ bad folder_at_the_top 3 'rnc-flat: error: /: this is a folder\n' /
 truncate -s 300M huge.rnc
 bad huge 3 'rnc-flat: error: huge.rnc: the file is larger than 4,194,304 bytes\n' huge.rnc
 ln -s self.rnc self.rnc
-bad link_to_itself 3 "rnc-flat: error: self.rnc: the file can't be read\n" self.rnc
+bad link_to_itself 3 "rnc-flat: error: self.rnc: the file can't be read: too many symbolic links, or a loop of them\n" self.rnc
 bad name_not_utf8 2 "error: a word is not UTF-8$hint" "$(printf 'a\377.rnc')"
 
 # include NAME STATUS SENTENCE LITERAL: an include of the literal is told at it.
@@ -482,16 +563,16 @@ include() {
     printf 'start = text\ninclude "%s"\n' "$4" >include.rnc
     bad "$1" "$2" "include.rnc:2:9: error: $3\n    include \"$4\"\n            ^\n" include.rnc
 }
-include include_missing 3 'no such file' 'missing.rnc'
-include include_folder 3 'this is a folder' 'folder'
-include include_folder_at_the_top 3 'this is a folder' '/'
-include include_huge 3 'the file is larger than 4,194,304 bytes' 'huge.rnc'
-include include_link_to_itself 3 "the file can't be read" 'self.rnc'
+include include_missing 3 'missing.rnc: no such file' 'missing.rnc'
+include include_folder 3 'folder: this is a folder' 'folder'
+include include_folder_at_the_top 3 '/: this is a folder' '/'
+include include_huge 3 'huge.rnc: the file is larger than 4,194,304 bytes' 'huge.rnc'
+include include_link_to_itself 3 "self.rnc: the file can't be read: too many symbolic links, or a loop of them" 'self.rnc'
 include includes_itself 1 'the file refers to itself: include.rnc, include.rnc' 'include.rnc'
 printf 'element note { text }\n' >note.rnc
 include include_pattern 1 'the file is a pattern, and only a grammar can be included; external takes a pattern' 'note.rnc'
 include host 1 'the reference names a host' 'file://host/x.rnc'
-include scheme 1 'no map says where the URI lies' 'http://example.org/x.rnc'
+include scheme 1 'no map says where http://example.org/x.rnc lies' 'http://example.org/x.rnc'
 include above 1 '`..` leads above the topmost folder' '../../../../../../../../../../../../../../../../../../../../x.rnc'
 for up in %2e%2e %2E%2E %2e%2E .%2e .%2E %2e. %2E.; do
     include "above $up" 1 '`..` leads above the topmost folder' "file:///$up/x.rnc"
@@ -514,7 +595,7 @@ printf 'include "cycle.rnc"\n' >other.rnc
 bad cycle 1 'other.rnc:1:9: error: the file refers to itself: cycle.rnc, other.rnc, cycle.rnc\n    include "cycle.rnc"\n            ^\n' cycle.rnc
 printf 'start = element a { external "bad.rnc" }\n' >external.rnc
 printf 'start = element a { | }\n' >bad.rnc
-bad external_faulty 1 'bad.rnc:1:21: error: `|` can'"'"'t stand here\n    start = element a { | }\n                        ^\n' external.rnc
+bad external_faulty 1 'bad.rnc:1:21: error: `|` can'"'"'t stand here; a pattern is expected\n    start = element a { | }\n                        ^\n' external.rnc
 printf 'start = element a { external "own.rnc" }\n' >back.rnc
 printf 'element b { external "back.rnc" }\n' >own.rnc
 bad external_cycle 1 'own.rnc:1:22: error: the file refers to itself: back.rnc, own.rnc, back.rnc\n    element b { external "back.rnc" }\n                         ^\n' back.rnc
@@ -540,14 +621,14 @@ rm "$controls"
 long=$(printf 'n%.0s' $(seq 201))
 printf 'start = text\n' >"$long"
 bad long_name 1 "rnc-flat: error: $long: the name of the file, below the root folder, is longer than 200 bytes\n" "$long"
-bad root_missing 3 'rnc-flat: error: the folder of --root: no such file\n' --root nowhere a.rnc
+bad root_missing 3 'rnc-flat: error: nowhere: no such file\n' --root nowhere a.rnc
 
 # Nothing is read outside of the root folder: what is there may be at fault.
 printf 'start = element a { , }\n' >outside.rnc
 ln -s ../outside.rnc folder/link.rnc
 bad outside_root 1 'rnc-flat: error: outside.rnc: the file is not below the root folder\n' --root folder outside.rnc
 printf 'include "../outside.rnc"\ninclude "../none.rnc"\ninclude "link.rnc"\ninclude "inside.rnc"\nstart = text\n' >folder/above.rnc
-bad above_root 3 'folder/above.rnc:1:9: error: the file is not below the root folder\n    include "../outside.rnc"\n            ^\nfolder/above.rnc:2:9: error: the file is not below the root folder\n    include "../none.rnc"\n            ^\nfolder/above.rnc:3:9: error: the file is not below the root folder\n    include "link.rnc"\n            ^\nfolder/above.rnc:4:9: error: no such file\n    include "inside.rnc"\n            ^\n' --root folder folder/above.rnc
+bad above_root 3 'folder/above.rnc:1:9: error: the file is not below the root folder\n    include "../outside.rnc"\n            ^\nfolder/above.rnc:2:9: error: the file is not below the root folder\n    include "../none.rnc"\n            ^\nfolder/above.rnc:3:9: error: the file is not below the root folder\n    include "link.rnc"\n            ^\nfolder/above.rnc:4:9: error: folder/inside.rnc: no such file\n    include "inside.rnc"\n            ^\n' --root folder folder/above.rnc
 printf 'include "http://x/a.rnc"\n' >folder/mapped.rnc
 row mapped_outside_root 0 'default namespace = ""\nstart = text\n' '' --root folder --map http://x/=. folder/mapped.rnc
 
@@ -585,6 +666,83 @@ files=
 for n in $(seq 20); do files="${files}f$n.rnc, "; done
 begins long_loop_of_files 1 "f25.rnc:1:9: error: the file refers to itself: ${files}5 more, f1.rnc" f1.rnc
 
+# ---- messages that say what is wrong with prefixes, names and literals, and what to do
+room advice
+# told NAME LINE:COLUMN SENTENCE TEXT WORD..: what begins the messages on a file of this text.
+told() {
+    local name=$1 place=$2 sentence=$3
+    printf '%b' "$4" >told.rnc
+    shift 4
+    begins "$name" 1 "told.rnc:$place: error: $sentence" "$@" told.rnc
+}
+told prefix_twice 2:11 'the prefix `p` is declared twice' 'namespace p = "a"\nnamespace p = "b"\nstart = element p:a { text }\n'
+told prefix_of_the_default_twice 2:19 'the prefix `p` is declared twice' 'namespace p = "a"\ndefault namespace p = "b"\nstart = text\n'
+told second_default 2:1 'this is a second default namespace' 'default namespace = "a"\ndefault namespace = "b"\nstart = text\n'
+told xmlns 1:11 "the prefix \`xmlns\` can't be declared" 'namespace xmlns = "a"\nstart = text\n'
+told xml 1:11 'the prefix `xml` stands for http://www.w3.org/XML/1998/namespace and for nothing else' 'namespace xml = "a"\nstart = text\n'
+told datatypes_twice 2:11 'the prefix `d` is declared twice' 'datatypes d = "a"\ndatatypes d = "b"\nstart = text\n'
+told xsd 1:11 'the prefix `xsd` stands for http://www.w3.org/2001/XMLSchema-datatypes and for nothing else' 'datatypes xsd = "a"\nstart = text\n'
+told prefix_of_a_namespace 2:21 'the prefix `d` is declared for a namespace, and not for datatypes' 'namespace d = "a"\nstart = element a { d:int }\n'
+told prefix_of_datatypes 2:17 'the prefix `d` is declared for datatypes, and not for a namespace' 'datatypes d = "a"\nstart = element d:a { text }\n'
+told any_name_of_a_prefix 1:17 'the prefix `q` is not declared' 'start = element q:* { text }\n'
+printf 'x = text\n' >part.rnc
+printf 'element note { text }\n' >note.rnc
+told inherited_prefix 1:28 'the prefix `q` is not declared' 'include "part.rnc" inherit=q\nstart = text\n'
+told placed_prefix 1:51 'the prefix `q` is not declared' 'start = element a { external "note.rnc" inherit = q }\n'
+told keyword_defined 2:1 "\`element\` can't stand here; \`element\` is a keyword, which is written \`\\element\` where it is a name" 'start = text\nelement = text\n'
+told keyword_defined_first 1:6 "\`=\` can't stand here; \`list\` is a keyword, which is written \`\\list\` where it is a name" 'list = text\nstart = text\n'
+told keyword_referred_to 1:21 "\`div\` can't stand here; \`div\` is a keyword, which is written \`\\div\` where it is a name" 'start = element a { div }\n'
+told keyword_of_parent 1:38 "\`list\` can't stand here; \`list\` is a keyword, which is written \`\\list\` where it is a name" 'start = grammar { start = a a=parent list }\n'
+told wanted_brace 1:19 "\`text\` can't stand here; \`{\` is expected" 'start = element a text\n'
+told wanted_literal 1:9 "\`b\` can't stand here; a literal is expected" 'include b\n'
+told wanted_sign 1:7 "\`text\` can't stand here; \`=\`, \`|=\` or \`&=\` is expected" 'start text\n'
+told wanted_equals 1:13 "\`\"u\"\` can't stand here; \`=\` is expected" 'namespace p "u"\n'
+told wanted_name_class 1:17 "\`{\` can't stand here; a name or \`*\` is expected" 'start = element { text }\n'
+told wanted_at_the_end 1:13 'the schema ends too early; `)` is expected' 'start = (a,b\n'
+told mixed_signs 1:26 "\`,\` can't stand here; patterns that are joined by different signs need parentheses" 'start = element a { b | c, d }\nb = text\nc = text\nd = text\n'
+told two_postfixes 1:23 "\`*\` can't stand here; behind a pattern there is one of ?, * and +" 'start = element a { b?* }\nb = text\n'
+told literal_not_closed 1:21 'this literal is not closed; only between three quotation marks it goes on in the next line' 'start = element a { "b }\n'
+told backslash 1:9 'a backslash stands only before a name' 'start = \\{}\n'
+told escape_of_a_name 1:1 'an escape such as \x{41} is read in literals alone' '\\x{73}tart = text\n'
+printf '\377\376s\000' >utf16.rnc
+bad utf16 1 'utf16.rnc:1:1: error: the file is in UTF-16, and only UTF-8 is read\n' utf16.rnc
+bad below_a_file 3 "rnc-flat: error: note.rnc/a.rnc: the file can't be read: a part of its path is not a folder\n" note.rnc/a.rnc
+# a near name: at most two edits, and at most a third of the bytes of the name
+told near 1:23 '`adress` is not defined: did you mean `address`?' 'start = element doc { adress }\naddress = text\naddrossi = text\n'
+told near_by_two_edits 1:9 '`adderss` is not defined: did you mean `address`?' 'start = adderss\naddress = text\n'
+told far_by_two_edits 1:9 '`anme` is not defined' 'start = anme\nname = text\n'
+told near_in_an_except 1:34 '`valeus` is not defined: did you mean `values`?' 'start = element a { xsd:string - valeus }\nvalues = "v"\n'
+told near_name_of_another_grammar 1:37 '`name` is not defined' 'start = grammar { start = element a{name} }, element b { text }\nnames = text\n'
+told near_name_of_its_grammar 1:37 '`name` is not defined: did you mean `names`?' 'start = grammar { start = element a{name} names = text }\n'
+# a byte order mark is no column, and isn't shown
+printf '\357\273\277start = element a { bad }\n' >marked.rnc
+bad marked 1 'marked.rnc:1:21: error: `bad` is not defined\n    start = element a { bad }\n                        ^\n' marked.rnc
+printf '\357\273\277start = text\na = bad\n' >marked.rnc
+bad marked_second_line 1 'marked.rnc:2:5: error: `bad` is not defined\n    a = bad\n        ^\n' marked.rnc
+# the accent over the e takes no column of a terminal
+printf 'start = "e\314\201", x\n' >accent.rnc
+bad combining 1 'accent.rnc:1:15: error: `x` is not defined\n    start = "e\314\201", x\n                 ^\n' accent.rnc
+
+# ---- messages as JSON
+room json
+printf 'start = x\n' >a.rnc
+printf 'start = text\n' >d.rnc
+row json 1 '' '{"file":"a.rnc","line":1,"column":9,"end":10,"severity":"error","kind":"undefined","sentence":"`x` is not defined","places":[]}\n' --format json a.rnc
+row json_as_text 1 '' 'a.rnc:1:9: error: `x` is not defined\n    start = x\n            ^\n' --format text a.rnc
+printf 'start = text\nname = text\nname = empty\n' >b.rnc
+row json_places 1 '' '{"file":"b.rnc","line":2,"column":1,"end":5,"severity":"error","kind":"duplicate","sentence":"`name` is defined here and in b.rnc:3:1, neither with |= nor &=","places":[{"file":"b.rnc","line":3,"column":1,"end":5}]}\n' --format json b.rnc
+printf 'start = text\ninclude "none.rnc"\n' >c.rnc
+row json_literal 3 '' '{"file":"c.rnc","line":2,"column":9,"end":19,"severity":"error","kind":"unreadable","sentence":"none.rnc: no such file","places":[]}\n' --format json c.rnc
+row json_without_place 3 '' '{"severity":"error","kind":"unreadable","sentence":"none\\".rnc: no such file","places":[]}\n' --format json 'none".rnc'
+row json_output 3 '' '{"severity":"error","kind":"unwritable","sentence":"none/x can'"'"'t be written: no such file or folder","places":[]}\n' --format json -o none/x d.rnc
+row json_usage 2 '' '{"severity":"error","kind":"usage","sentence":"d.rnc is one of the files that are read","places":[]}\n' --format json -o d.rnc d.rnc
+{
+    echo 'start = text'
+    for n in $(seq 10 31); do echo "d$n = u$n"; done
+} >many.rnc
+if [ "$("$program" --format json many.rnc 2>&1 | tail -1)" = '{"severity":"note","kind":"further","count":2}' ]; then pass; else fail json_further; fi
+begins json_word 2 "error: invalid value 'xml' for '--format <WORD>'" --format xml a.rnc
+
 # ---- chains of references in excepts
 room excepts
 {
@@ -614,7 +772,6 @@ bad except_of_a_loop 1 "round.rnc:1:34: error: this stands for more than data, v
 
 # ---- the stack: what 256 open brackets take of it
 room stack
-stack=1024
 deep_texts
 nested deep-grammars 255 'start = ' 'grammar { start = ' text ' }' ''
 nested deep-grammars-of-elements 127 'start = element r { ' 'element a { grammar { start = ' text ' } }' ' }'
@@ -634,6 +791,30 @@ if command -v script >/dev/null; then
     if grep -q "$(printf '\033')\[31merror: " got.err; then pass; else fail 'colours on a terminal'; fi
     script -qec "NO_COLOR=1 $program a.rnc" /dev/null >got.err 2>/dev/null </dev/null
     if grep -q 'error: `x` is not defined' got.err && ! grep -q "$(printf '\033')" got.err; then pass; else fail 'NO_COLOR'; fi
+    script -qec "NO_COLOR= TERM=dumb $program a.rnc" /dev/null >got.err 2>/dev/null </dev/null
+    if grep -q 'error: `x` is not defined' got.err && ! grep -q "$(printf '\033')" got.err; then pass; else fail 'a dumb terminal'; fi
 fi
+painted='\033[1ma.rnc:1:9: \033[31merror: \033[0m`x` is not defined\n    start = x\n            \033[1;32m^\033[0m\n'
+plain='a.rnc:1:9: error: `x` is not defined\n    start = x\n            ^\n'
+row colour_always 1 '' "$painted" --color always a.rnc
+row colour_never 1 '' "$plain" --color never a.rnc
+row colour_auto 1 '' "$plain" --color auto a.rnc
+export CLICOLOR_FORCE=1
+row colour_forced 1 '' "$painted" a.rnc
+row colour_forced_never 1 '' "$plain" --color never a.rnc
+NO_COLOR=1 row colour_forced_and_refused 1 '' "$plain" a.rnc
+CLICOLOR_FORCE=0 row colour_not_forced 1 '' "$plain" a.rnc
+unset CLICOLOR_FORCE
+begins colour_word 2 "error: invalid value 'red' for '--color <WORD>'" --color red a.rnc
+
+# ---- a pipe that its reader closes ends the program without a sentence
+room closed
+{
+    printf 'start = empty\n'
+    for number in $(seq 20000); do printf '| element x%d { empty }\n' "$number"; done
+} >large.rnc
+"$program" large.rnc 2>got.err | head -c 1 >/dev/null
+closed=${PIPESTATUS[0]}
+if [ "$closed" -eq 141 ] && [ ! -s got.err ]; then pass; else fail "closed pipe: status $closed: $(head -1 got.err)"; fi
 
 tell

@@ -211,7 +211,16 @@ class Told:
         said, why = xml_syntax.verdicts(self.xml, sorted(pathlib.Path(self.folder).glob("*.xml")))
         if said is None:
             return [f"lxml: {why}"] if why else []
-        return [f"lxml: {'as jing' if one == other else 'valid for jing alone' if other == '1' else 'not valid for jing alone'}" for one, other in zip(said, rest)]
+        return [f"lxml: {beside_jing(one, other)}" for one, other in zip(said, rest)]
+
+
+def beside_jing(of_lxml, of_jing):
+    """How the verdicts of lxml and of jing on a document go together."""
+    if of_lxml == "?":
+        return "no verdict, since it doesn't read the document"
+    if of_lxml == of_jing:
+        return "as jing"
+    return "valid for jing alone" if of_jing == "1" else "not valid for jing alone"
 
 
 def read(path):

@@ -61,4 +61,12 @@ def verdicts(path, documents):
         schema = etree.RelaxNG(etree.parse(str(path)))
     except (etree.RelaxNGError, etree.LxmlError) as error:
         return None, str(error)[:120]
-    return "".join("1" if schema.validate(etree.parse(str(it))) else "0" for it in documents), ""
+    return "".join(verdict(schema, it) for it in documents), ""
+
+
+def verdict(schema, document):
+    """What lxml says of a document: 1 where it is valid, 0 where it isn't, ? where lxml doesn't read it (a namespace with characters other than those of URIs)."""
+    try:
+        return "1" if schema.validate(etree.parse(str(document))) else "0"
+    except etree.XMLSyntaxError:
+        return "?"

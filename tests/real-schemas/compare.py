@@ -2,8 +2,8 @@
 """Puts the schemas of Debian packages through rnc-flat, and compares what is printed with them by jing.
 
 compare.py PROGRAM FOLDER [--only WORD] [--all]: fetches the packages into FOLDER where they aren't there yet (apt-get download, dpkg -x), and runs
-rnc-flat on each driver: a file that includes or refers to others, and that no other file leads to. Schemas in the XML syntax are put into the compact
-one first (trang), where trang takes them. With --all every file is run; with --only those whose path holds WORD.
+rnc-flat on each driver as it lies on disk, in either syntax: a file that includes or refers to others, and that no other file leads to. With --all
+every file is run; with --only those whose path holds WORD. Where a file lies in both syntaxes, it is told whether both print the same.
 
 Where jing takes the driver, the simplified forms that it makes (-i -c -s) of the driver and of what is printed are compared up to names
 (tests/against-jing/simplified.py), and what is printed must be printed again. Each printed schema is written in the XML syntax too (--rng): jing must
@@ -21,7 +21,7 @@ import tempfile
 
 sys.path.insert(0, str(pathlib.Path(__file__).resolve().parent.parent / "against-jing"))
 from jing import answers  # noqa: E402
-from packages import PACKAGES, chosen, fetch, open_archives, translated  # noqa: E402
+from packages import PACKAGES, chosen, fetch, open_archives  # noqa: E402
 from simplified import is_same  # noqa: E402
 from xml_syntax import not_the_same, written, xmllint  # noqa: E402
 
@@ -30,7 +30,7 @@ SECONDS = 180
 
 
 def forms(room, paths):
-    """What jing says of schemas in the compact syntax, by their paths: the simplified form and nothing, or nothing and the errors."""
+    """What jing says of schemas, by their paths: the simplified form and nothing, or nothing and the errors."""
     found = {}
     for line, (is_good, errors) in answers(room, [f"{path}\t{room}" for path in paths]).items():
         path = pathlib.Path(line.split("\t")[0])
@@ -53,7 +53,7 @@ def flat(program, path, to):
 
 
 def compare(program, room, paths):
-    """What comes of each file in the compact syntax, and why."""
+    """What comes of each file, and why."""
     originals = forms(room, paths)
     printed = {path: pathlib.Path(room) / f"{at}.rnc" for at, path in enumerate(paths)}
     refused = {path: flat(program, path, printed[path]) for path in paths}
@@ -72,6 +72,18 @@ def compare(program, room, paths):
             yield path, "not printed", refused[path]
         else:
             yield path, *compared(program, room, form, printed[path], *again[printed[path]])
+        beside = path.with_suffix(".rnc")
+        if path.suffix == ".rng" and beside.is_file() and not refused[path]:
+            yield path, *of_pair(program, room, beside, printed[path])
+
+
+def of_pair(program, room, beside, printed):
+    """What comes of the same schema in the compact syntax."""
+    to = pathlib.Path(room) / "beside.rnc"
+    refusal = flat(program, beside, to)
+    if refusal:
+        return "the compact file is refused", refusal
+    return ("the compact file prints the same" if to.read_bytes() == printed.read_bytes() else "the compact file prints otherwise"), ""
 
 
 def of_xml_syntax(room, path, of_text, of_xml, xml, others):
@@ -111,11 +123,8 @@ def main():
     open_archives(folder)
     with tempfile.TemporaryDirectory() as room:
         found = chosen(folder, words)
-        made = translated(room, folder, found[".rng"])
-        paths = found[".rnc"] + [to for to in made.values() if to]
-        print(f"{len(found['.rnc'])} shipped in the compact syntax, {len(found['.rng'])} in the XML syntax, of which trang takes {len(paths) - len(found['.rnc'])}")
-        for path in [path for path, to in made.items() if not to]:
-            print("not taken by trang", path.relative_to(folder), sep="\t")
+        paths = found[".rnc"] + found[".rng"]
+        print(f"{len(found['.rnc'])} shipped in the compact syntax, {len(found['.rng'])} in the XML syntax")
         counts = collections.Counter()
         for path, answer, why in compare(words.program.resolve(), room, paths):
             counts[answer] += 1

@@ -14,6 +14,7 @@ pub mod Included
 pub mod Inclusions
 pub mod Instances
 pub mod Joining
+pub mod KeyBodies
 pub mod Keyed
 pub mod Lacking
 pub mod Listed

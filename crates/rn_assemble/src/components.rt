@@ -1,5 +1,5 @@
 // The components of a set: bodies, which of them stand in the list, and where those of each key stand.
-ghost use Rattle.std.specs.Prelude.{◌≡◌, ◌↔◌, IsTrue, ℕ, ◌+◌, ◌-◌, ◌<◌, ◌≤◌, ◌==◌, not, List, [], ◌∷◌, ◌++◌, filter, length, slice_get, slice_index_or, Contains, IfOk, IfSome};
+ghost use Rattle.std.specs.Prelude.{◌≡◌, ◌↔◌, IsTrue, ℕ, ◌+◌, ◌-◌, ◌<◌, ◌≤◌, ◌==◌, not, List, [], ◌∷◌, ◌++◌, filter, length, slice_get, slice_index_or, Contains, IfErr, IfOk, IfSome, OnOk};
 ghost use Rattle.std.specs.List.{AllByRecursion};
 ghost use Rattle.std.specs.Rc.{rc_str_bytes};
 ghost use Rattle.rn_text.specs.Texts.{Text};
@@ -7,6 +7,7 @@ ghost use Rattle.rn_pattern.specs.Graph.{row};
 ghost use Rattle.rn_syntax.specs.Tree.{Declaration};
 ghost use Rattle.rn_assemble.specs.Components as specs;
 ghost use Rattle.rn_assemble.specs.inside.Expanded.{AddsLive, CanAdd, ContextsHold, Enters, IsContentAt, KeepsBodies, KeepsLists};
+ghost use Rattle.rn_assemble.specs.inside.KeyBodies.{bodies_in};
 ghost use Rattle.rn_assemble.specs.inside.Listed.{AreBefore, IsBody, Lists, Live, PlacesRise, resolved_between};
 ghost use Rattle.rn_assemble.specs.inside.Tied.{body_of};
 ghost use Rattle.rn_assemble.specs.inside.Trees.{TreeView};
@@ -218,6 +219,25 @@ impl<'c, 't, 's> Components<'c, 't, 's> {
     {
         let place = self.places.get(key)?.get(index, &mut near.place)?;
         self.body_at(place, near)
+    }
+
+    /// Puts the numbers of the bodies of a key's components, in their order, in the place of what `found` held. Out of
+    /// memory leaves it empty.
+    pub fn bodies_of(&self, key: usize, found: &mut Runs) -> Result<(), AllocError>
+        ensures found { OnOk result (found.new ≡ bodies_in self.now key) }
+        ensures empty { IfErr result (λ _. found.new ≡ []) }
+    {
+        found.clear();
+        let mut near = Near::default();
+        for index in 0..self.count_of(key) {
+            if let Some(body) = self.body_of(key, index, &mut near) {
+                if let Err(error) = found.push(body) {
+                    found.clear();
+                    return Err(error);
+                }
+            }
+        }
+        Ok(())
     }
 
     /// The place of the last component of a key.

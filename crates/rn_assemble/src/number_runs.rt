@@ -121,6 +121,14 @@ impl Runs {
         Ok(())
     }
 
+    /// Takes all numbers away. The memory is kept for others.
+    pub fn clear(&mut self)
+        ensures { self.new ≡ [] }
+    {
+        self.runs.clear();
+        self.len = 0;
+    }
+
     /// Takes the last number away.
     pub fn pop(&mut self)
         ensures { self.new ≡ take (length self.old - 1) self.old }

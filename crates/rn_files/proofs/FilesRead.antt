@@ -1,18 +1,20 @@
 -- What was read of files: what is weaker is so of the same ones, and all of it is a front of it.
-use Rattle.std.proofs.Common.{◌≡◌, ℕ, inl, inr, true, false, length, List, [], ◌∙◌, Option, Some, None, arith, subst, sym}
+use Rattle.std.proofs.Common.{◌≡◌, ℕ, inl, inr, true, false, length, List, [], Option, Some, None, arith, subst, sym}
 use Rattle.std.specs.Borrow.{Bor}
 use Rattle.std.specs.Option.{option_copied}
-use Rattle.std.specs.Prelude.{All, MatchOption, is_some, string_bytes}
+use Rattle.std.specs.Prelude.{All, IfNone, MatchOption, OnSome, is_some, string_bytes}
 use Rattle.std.proofs.lemmas.Bool.{false≢true}
 use Rattle.std.proofs.lemmas.List.{take_all}
 use Rattle.std.proofs.lemmas.List.Elements.{All-weaker}
 use Rattle.rn_files.specs.Maps.{IsLongest}
-use Rattle.rn_files.specs.ReadableFiles.{Gives, IsFrontOfRead, IsReadAt, IsReadFor, IsReadSource, IsReadWithin, Leads, LiesInMap, MayBeRead, Reads, lies_in}
+use Rattle.rn_files.specs.ReadableFiles.{Gives, IsFrontOfRead, IsKept, IsReadAt, IsReadFor, IsReadSource, IsReadWithin, IsTextRead, Leads, LiesInMap, MayBeRead, Reads, lies_in}
 use Rattle.rn_files.specs.inside.Following.{IsFollowed, IsFront, IsRootOf}
 use Rattle.rn_files.specs.declared.maps.Map.{Map}
 use Rattle.rn_files.specs.declared.root_folder.RootFolder.{RootFolder}
 use Rattle.rn_files.specs.declared.sources.Asked.{Asked}
 use Rattle.rn_files.specs.declared.sources.SourceFile.{SourceFile}
+use Rattle.rn_files.specs.declared.sources.Written.{Written}
+use Rattle.rn_xml.specs.Encodings.{may_be_xml}
 use Rattle.rn_files.specs.declared.walk.Followed.{Followed}
 
 none_matched : {A : Type 0} (o : Option A) (P Q : Type 0) → is_some o ≡ false → P → MatchOption o P (λ x. Q)
@@ -27,44 +29,78 @@ weaker_matched : {A : Type 0} (o : Option A) (P Q P' Q' : Type 0) → (P → P')
 weaker_matched None P Q P' Q' f g h = f h
 weaker_matched (Some x) P Q P' Q' f g h = g h
 
-pub all_is_front : (reads : Reads) (uri path text : List ℕ) → reads uri path text → IsFrontOfRead reads text
+all_is_front : (reads : Reads) (uri path text : List ℕ) → reads uri path text → IsFrontOfRead reads text
 all_is_front reads uri path text h = inr (uri, path, text, length text, h, sym (take_all (length text) text (omega arith)))
+
+-- the text that was read is kept
+text_kept : (reads : Reads) (uri path text : List ℕ) (w : Option Written) → IsTextRead reads uri path text w → IsKept reads text w
+text_kept reads uri path text None h = all_is_front reads uri path text h
+text_kept reads uri path text (Some w) (bytes, h, xml) = (uri, path, bytes, h, xml)
 
 front_weaker : (reads others : Reads) → ((u p b : List ℕ) → reads u p b → others u p b) → (text : List ℕ) → IsFrontOfRead reads text → IsFrontOfRead others text
 front_weaker reads others weaker text (inl none) = inl none
 front_weaker reads others weaker text (inr (uri, path, bytes, n, read, cut)) = inr (uri, path, bytes, n, weaker uri path bytes read, cut)
 
+kept_weaker : (reads others : Reads) → ((u p b : List ℕ) → reads u p b → others u p b) → (text : List ℕ) (w : Option Written) → IsKept reads text w → IsKept others text w
+kept_weaker reads others weaker text None h = front_weaker reads others weaker text h
+kept_weaker reads others weaker text (Some w) (uri, path, bytes, read, xml) = (uri, path, bytes, weaker uri path bytes read, xml)
+
+text_weaker : (reads others : Reads) → ((u p b : List ℕ) → reads u p b → others u p b) → (uri path text : List ℕ) (w : Option Written)
+    → IsTextRead reads uri path text w → IsTextRead others uri path text w
+text_weaker reads others weaker uri path text None h = weaker uri path text h
+text_weaker reads others weaker uri path text (Some w) (bytes, h, xml) = (bytes, weaker uri path bytes h, xml)
+
+-- the text of a file without fault
+pub text_read : (reads : Reads) (uri path bytes text : List ℕ) (w : Option Written) → reads uri path bytes → IfNone w (text ≡ bytes)
+    → OnSome w (may_be_xml bytes ≡ true) → IsTextRead reads uri path text w
+text_read reads uri path bytes text None read same xml = let P : List ℕ → Type 0 = λ t. reads uri path t in subst P (sym same) read
+text_read reads uri path bytes text (Some w) read same xml = (bytes, read, xml)
+
+-- what is kept of a file at fault
+kept_front : (reads : Reads) (uri path bytes text : List ℕ) (w : Option Written) → reads uri path bytes → IfNone w (IsFront bytes text)
+    → OnSome w (may_be_xml bytes ≡ true) → IsKept reads text w
+kept_front reads uri path bytes text None read (n, cut) xml = inr (uri, path, bytes, n, read, cut)
+kept_front reads uri path bytes text (Some w) read front xml = (uri, path, bytes, read, xml)
+
 -- a file at fault
-pub faulty_followed : (reads : Reads) (f : Followed) → is_some f.outline ≡ false → IsFrontOfRead reads (string_bytes f.text) → IsFollowed reads f
-faulty_followed reads f none front =
-    none_matched f.outline (IsFrontOfRead reads (string_bytes f.text)) (reads (string_bytes f.found.uri) (string_bytes f.found.path) (string_bytes f.text)) none front
+pub faulty_followed : (reads : Reads) (f : Followed) → is_some f.outline ≡ false → IsKept reads (string_bytes f.text) f.written → IsFollowed reads f
+faulty_followed reads f none kept =
+    none_matched f.outline (IsKept reads (string_bytes f.text) f.written)
+    (IsTextRead reads (string_bytes f.found.uri) (string_bytes f.found.path) (string_bytes f.text) f.written) none kept
+
+nothing_kept : (reads : Reads) (text : List ℕ) (w : Option Written) → w ≡ None → text ≡ [] → IsKept reads text w
+nothing_kept reads text w none empty = let P : Option Written → Type 0 = λ v. IsKept reads text v in subst P (sym none) (inl empty)
 
 -- a file at fault, of which nothing was read
-pub unread_followed : (reads : Reads) (f : Followed) → is_some f.outline ≡ false → string_bytes f.text ≡ [] → IsFollowed reads f
-unread_followed reads f none empty = faulty_followed reads f none (inl empty)
+pub unread_followed : (reads : Reads) (f : Followed) → is_some f.outline ≡ false → string_bytes f.text ≡ [] → f.written ≡ None → IsFollowed reads f
+unread_followed reads f none empty unwritten = faulty_followed reads f none (nothing_kept reads (string_bytes f.text) f.written unwritten empty)
 
 -- a file at fault, of which a front is kept
-pub front_followed : (reads : Reads) (f : Followed) (uri path bytes text : List ℕ) → is_some f.outline ≡ false → string_bytes f.text ≡ text → IsFront bytes text
-    → reads uri path bytes → IsFollowed reads f
-front_followed reads f uri path bytes text none same (n, cut) read = faulty_followed reads f none (inr (uri, path, bytes, n, read, same ∙ cut))
+pub front_followed : (reads : Reads) (f : Followed) (uri path bytes text : List ℕ) (w : Option Written) → is_some f.outline ≡ false → string_bytes f.text ≡ text
+    → f.written ≡ w → IfNone w (IsFront bytes text) → OnSome w (may_be_xml bytes ≡ true) → reads uri path bytes → IsFollowed reads f
+front_followed reads f uri path bytes text w none same written front xml read =
+    let P : List ℕ → Type 0 = λ t. IsKept reads t f.written in
+    let Q : Option Written → Type 0 = λ v. IsKept reads text v in
+    faulty_followed reads f none (subst P (sym same) (subst Q (sym written) (kept_front reads uri path bytes text w read front xml)))
 
--- the text of each file is a front of what was read
-pub followed_front : (reads : Reads) (f : Followed) → IsFollowed reads f → IsFrontOfRead reads (string_bytes f.text)
-followed_front reads f h =
+-- what is kept of each file
+pub followed_kept : (reads : Reads) (f : Followed) → IsFollowed reads f → IsKept reads (string_bytes f.text) f.written
+followed_kept reads f h =
+    let uri = string_bytes f.found.uri in
+    let path = string_bytes f.found.path in
     let text = string_bytes f.text in
-    either_matched f.outline (IsFrontOfRead reads text) (reads (string_bytes f.found.uri) (string_bytes f.found.path) text)
-    (all_is_front reads (string_bytes f.found.uri) (string_bytes f.found.path) text) h
+    either_matched f.outline (IsKept reads text f.written) (IsTextRead reads uri path text f.written) (text_kept reads uri path text f.written) h
 
-pub source_front : (reads : Reads) (f : SourceFile) → IsReadSource reads f → IsFrontOfRead reads (string_bytes f.text)
-source_front reads f h = all_is_front reads (string_bytes f.uri) (string_bytes f.path) (string_bytes f.text) h
+pub source_kept : (reads : Reads) (f : SourceFile) → IsReadSource reads f → IsKept reads (string_bytes f.text) f.written
+source_kept reads f h = text_kept reads (string_bytes f.uri) (string_bytes f.path) (string_bytes f.text) f.written h
 
 pub followed_weaker : (reads others : Reads) → ((u p b : List ℕ) → reads u p b → others u p b) → (f : Followed) → IsFollowed reads f → IsFollowed others f
 followed_weaker reads others weaker f h =
     let uri = string_bytes f.found.uri in
     let path = string_bytes f.found.path in
     let text = string_bytes f.text in
-    weaker_matched f.outline (IsFrontOfRead reads text) (reads uri path text) (IsFrontOfRead others text) (others uri path text)
-    (front_weaker reads others weaker text) (weaker uri path text) h
+    weaker_matched f.outline (IsKept reads text f.written) (IsTextRead reads uri path text f.written) (IsKept others text f.written)
+    (IsTextRead others uri path text f.written) (kept_weaker reads others weaker text f.written) (text_weaker reads others weaker uri path text f.written) h
 
 -- what is read below a root folder is read below the folder that is asked for
 pub read_within : (leads : Leads) (gives : Gives) (named : List ℕ) (root : RootFolder) (maps : List Map) → IsRootOf leads named root → (u p b : List ℕ)

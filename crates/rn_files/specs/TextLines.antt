@@ -1,6 +1,6 @@
 -- Lines of a text, and where its bytes stand in them. A line ends with LF, CR LF or CR.
-use Rattle.std.specs.Prelude.{◌≡◌, ℕ, ◌+◌, ◌<◌, ◌≤◌, ◌==◌, ◌&&◌, ◌||◌, ◌⊎◌, nat_le, nat_lt, not, Bool, List, [], ◌∷◌, ◌++◌, length, min, count_by, slice_index, slice_range, drop, take_while, if◌then◌else◌}
-use Rattle.std.specs.List.{concat}
+use Rattle.std.specs.Prelude.{◌≡◌, ℕ, ◌+◌, ◌-◌, ◌<◌, ◌≤◌, ◌==◌, ◌&&◌, ◌||◌, ◌⊎◌, nat_eq, nat_le, nat_lt, not, Bool, List, [], ◌∷◌, ◌++◌, length, min, count_by, slice_index, slice_range, drop, take_while, if◌then◌else◌}
+use Rattle.std.specs.List.{concat, starts_with}
 
 -- a line ends behind the byte b that the rest follows: behind LF, and behind a CR that no LF follows
 abbrev pub closes : ℕ → List ℕ → Bool
@@ -36,9 +36,20 @@ abbrev pub is_inside : ℕ → Bool
 is_inside b = not (b == 10) && not (b == 13)
 
 -- the line of the byte, and the number of its character there: those before it in the line, and one
-abbrev pub IsPosition : List ℕ → ℕ → ℕ → ℕ → Type 0
-IsPosition text at line column = (start : ℕ) × StandsIn text at line start
+abbrev pub IsPositionIn : List ℕ → ℕ → ℕ → ℕ → Type 0
+IsPositionIn text at line column = (start : ℕ) × StandsIn text at line start
     × (column ≡ count_by begins_character (slice_range text start (min at (length text))) + 1)
+
+-- the byte order mark that may stand before a text in UTF-8 (RFC 3629, section 6)
+abbrev pub mark : List ℕ
+mark = 239 ∷ 187 ∷ 191 ∷ []
+
+abbrev pub mark_length : List ℕ → ℕ
+mark_length text = if starts_with nat_eq text mark then 3 else 0
+
+-- where the byte is in the text behind its mark, which is no character of the first line
+abbrev pub IsPosition : List ℕ → ℕ → ℕ → ℕ → Type 0
+IsPosition text at line column = IsPositionIn (drop (mark_length text) text) (at - mark_length text) line column
 
 -- the line in which the byte stands, without its end
 abbrev pub IsLineOf : List ℕ → ℕ → List ℕ → Type 0

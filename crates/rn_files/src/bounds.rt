@@ -18,6 +18,8 @@ pub struct Ways<'a> {
     pub current: &'a str,
     /// The root folder, if one is given.
     pub root: Option<&'a RootFolder>,
+    /// The path of the file that standard input is read in place of, if one is given.
+    pub input: Option<&'a str>,
 }
 
 /// Whether a path is that of a folder, or goes on behind it by whole segments.

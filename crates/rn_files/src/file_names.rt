@@ -10,7 +10,7 @@ use std::collections::BTreeSet;
 
 /// What a module's name is made from: the path below the root folder, or the URI where a map found the file.
 fn unescaped_name<'e>(entry: &'e Entry, root: &str) -> &'e str {
-    let path = entry.found.path.as_str();
+    let path = entry.found.spelled.as_str();
     match entry.found.by {
         FoundBy::Input => path,
         FoundBy::Map => entry.found.uri.as_str(),
@@ -59,7 +59,7 @@ fn deepest_folder(alloc: Global, entries: &[Entry]) -> Result<String, AllocError
     let mut paths = Vec::new(alloc);
     for entry in entries {
         if entry.found.by == FoundBy::Path {
-            paths.push(entry.found.path.as_str())?;
+            paths.push(entry.found.spelled.as_str())?;
         }
     }
     String::from_str(alloc, common_folder(paths.as_slice()))

@@ -21,7 +21,16 @@ pub enum FileFault {
     /// The file has more than [`MAX_TEXT`] bytes.
     #[error("the file is larger than {most} bytes", most = Grouped(MAX_TEXT))]
     Large,
-    /// The system refused to read it.
+    /// The user may not read it, or may not search a folder on the way.
+    #[error("the file can't be read: permission denied")]
+    Denied,
+    /// The path goes through too many symbolic links, or they come back to one of them.
+    #[error("the file can't be read: too many symbolic links, or a loop of them")]
+    Links,
+    /// What the path has as a folder is none.
+    #[error("the file can't be read: a part of its path is not a folder")]
+    Inner,
+    /// The system failed to read it for another reason.
     #[error("the file can't be read")]
     Refused,
     /// A request for memory was refused.

@@ -9,9 +9,11 @@ use crate::bounds::{Ways, may_be_read};
 use crate::escapes::file_uri;
 use crate::file_texts::{FileText, MAX_TEXT, text_of};
 use crate::files::{FileFault, Files, Kinds, STANDARD_INPUT};
-use crate::links::{LinkFault, found_at};
+use crate::links::{LinkFault, found_at, tried_place};
+use crate::maps::locate;
 use crate::source_faults::FaultPlace;
-use crate::uri_references::resolve_below;
+use crate::sources::Written;
+use crate::uri_references::{ReferenceFault, resolve_below};
 use crate::walk::{Followed, FoundBy, FoundFile, MAX_SOURCES, Walk};
 use rn_outline::{Outline, Part, PartKind};
 use std::alloc::{AllocError, Global};
@@ -53,22 +55,13 @@ fn word_file<F: Files>(
     ways: &Ways<'_>,
     word: &str,
 ) -> Result<FoundFile, LinkFault> {
-    let is_input = word == STANDARD_INPUT;
-    let path = if is_input {
-        String::from_str(alloc, word)?
-    } else {
-        files.real_path(alloc, word, Kinds::Any)?
-    };
-    let by = if is_input {
-        FoundBy::Input
-    } else {
-        FoundBy::Path
-    };
+    let path = files.real_path(alloc, word, Kinds::Any)?;
     let found = FoundFile {
+        spelled: path.clone()?,
         path,
         shown: String::from_str(alloc, word)?,
         uri: word_uri(alloc, ways.current, word)?,
-        by,
+        by: FoundBy::Path,
     };
     if !may_be_read(alloc, files, ways, &found, found.path.as_str())? {
         return Err(LinkFault::Outside);
@@ -76,7 +69,41 @@ fn word_file<F: Files>(
     Ok(found)
 }
 
-/// Enters the file that is asked for by a word.
+/// The path of the file that standard input is read in place of: the real path, where there is such a file.
+fn input_path<F: Files>(
+    alloc: Global,
+    files: &F,
+    named: &str,
+    uri: &str,
+) -> Result<String, LinkFault> {
+    match files.real_path(alloc, named, Kinds::Any) {
+        Ok(real) => Ok(real),
+        Err(FileFault::Memory) => Err(LinkFault::Memory),
+        Err(_) => Ok(locate(alloc, &[], uri)?.path),
+    }
+}
+
+/// Standard input, in place of the file at the path that is given for it.
+fn input_file<F: Files>(alloc: Global, files: &F, ways: &Ways<'_>) -> Result<FoundFile, LinkFault> {
+    let shown = String::from_str(alloc, ways.input.unwrap_or(STANDARD_INPUT))?;
+    let uri = word_uri(alloc, ways.current, shown.as_str())?;
+    let (spelled, by) = match ways.input {
+        Some(named) => (
+            input_path(alloc, files, named, uri.as_str())?,
+            FoundBy::Path,
+        ),
+        None => (shown.clone()?, FoundBy::Input),
+    };
+    Ok(FoundFile {
+        path: String::from_str(alloc, STANDARD_INPUT)?,
+        spelled,
+        shown,
+        uri,
+        by,
+    })
+}
+
+/// Enters the file that is asked for by a word. Standard input is refused in place of a file that was named before.
 fn enter_word<F: Files>(
     alloc: Global,
     files: &F,
@@ -85,7 +112,14 @@ fn enter_word<F: Files>(
     word: &str,
     place: FaultPlace,
 ) -> Result<usize, LinkFault> {
-    walk.enter(word_file(alloc, files, ways, word)?, place)
+    if word != STANDARD_INPUT {
+        return walk.enter(word_file(alloc, files, ways, word)?, place);
+    }
+    let input = input_file(alloc, files, ways)?;
+    if walk.numbers.get(input.spelled.as_str()).is_some() {
+        return Err(LinkFault::Twice);
+    }
+    walk.enter(input, place)
 }
 
 /// Enters the files that are asked for, and answers their numbers, each once.
@@ -100,7 +134,7 @@ pub fn enter_words<F: Files>(
     for (number, word) in words.iter().enumerate() {
         let place = FaultPlace::Word(number);
         let entered = enter_word(alloc, files, ways, walk, word.as_str(), place);
-        if let Some(root) = walk.note_link(place, entered)? {
+        if let Some(root) = walk.note_link(place, String::new(alloc), entered)? {
             if !roots.contains(&root) {
                 roots.push(root)?;
             }
@@ -116,41 +150,60 @@ fn target_uri(alloc: Global, base: &str, literal: &str) -> Result<String, LinkFa
     Ok(resolve_below(alloc, base, literal)?)
 }
 
-/// Enters the file to which a URI leads.
+/// Enters the file to which a URI leads that a file refers to.
 fn enter_found<F: Files>(
     alloc: Global,
     files: &F,
     ways: &Ways<'_>,
     walk: &mut Walk,
+    from: &FoundFile,
     uri: String,
     place: FaultPlace,
 ) -> Result<usize, LinkFault>
     ensures { EntriesGrow walk.old walk.new }
 {
-    walk.enter(found_at(alloc, files, ways, uri)?, place)
+    walk.enter(found_at(alloc, files, ways, from, uri)?, place)
 }
 
-/// Enters the file that a reference in a file with the URI `base` means. A URI is looked up once: the walk keeps where
-/// it led, or its fault.
+/// Enters the file that a reference in a file means. A URI is looked up once: the walk keeps where it led, or its fault.
 fn enter_link<F: Files>(
     alloc: Global,
     files: &F,
     ways: &Ways<'_>,
     walk: &mut Walk,
-    base: &str,
+    from: &FoundFile,
     literal: &str,
     place: FaultPlace,
 ) -> Result<usize, LinkFault>
     ensures { EntriesGrow walk.old walk.new }
 {
-    let uri = target_uri(alloc, base, literal)?;
+    let uri = target_uri(alloc, from.uri.as_str(), literal)?;
     if let Some(led) = walk.led.get(uri.as_str()) {
         return *led;
     }
     let kept = uri.clone()?;
-    let led = enter_found(alloc, files, ways, walk, uri, place);
+    let led = enter_found(alloc, files, ways, walk, from, uri, place);
     walk.keep(kept, led)?;
     led
+}
+
+/// The path or the URI that was tried for a reference that led to no file; nothing where it led to one, or stands for no
+/// URI.
+fn tried_by(
+    alloc: Global,
+    ways: &Ways<'_>,
+    from: &FoundFile,
+    literal: &str,
+    entered: &Result<usize, LinkFault>,
+) -> Result<String, AllocError> {
+    if entered.is_ok() {
+        return Ok(String::new(alloc));
+    }
+    match resolve_below(alloc, from.uri.as_str(), literal) {
+        Ok(uri) => tried_place(alloc, ways, from, uri.as_str()),
+        Err(ReferenceFault::Memory) => Err(AllocError),
+        Err(_) => Ok(String::new(alloc)),
+    }
 }
 
 /// Enters the files that the links of a file mean, as long as files are looked for, and answers their numbers: of a link
@@ -161,7 +214,7 @@ fn follow_links<F: Files>(
     ways: &Ways<'_>,
     walk: &mut Walk,
     file: usize,
-    base: &str,
+    from: &FoundFile,
     outline: &Outline,
 ) -> Result<Vec<usize>, AllocError>
     ensures { EntriesGrow walk.old walk.new }
@@ -173,8 +226,9 @@ fn follow_links<F: Files>(
         }
         if let Some((literal, at)) = link_of(part) {
             let place = FaultPlace::Text { file, at };
-            let entered = enter_link(alloc, files, ways, walk, base, literal, place);
-            let target = walk.note_link(place, entered)?;
+            let entered = enter_link(alloc, files, ways, walk, from, literal, place);
+            let tried = tried_by(alloc, ways, from, literal, &entered)?;
+            let target = walk.note_link(place, tried, entered)?;
             targets.push(target.unwrap_or(file))?;
         }
     }
@@ -182,7 +236,7 @@ fn follow_links<F: Files>(
 }
 
 /// What the bytes of a file are, and enters the files that they refer to.
-#[tactic(auto, using(crate::proofs::FilesRead::front_followed))]
+#[tactic(auto, using(crate::proofs::FilesRead::front_followed, crate::proofs::FilesRead::text_read))]
 fn follow_text<F: Files>(
     alloc: Global,
     files: &F,
@@ -197,33 +251,39 @@ fn follow_text<F: Files>(
         (string_bytes found.uri) (string_bytes found.path) bytes.now }
     ensures { IfOk result (IsFollowed (IsReadBy (F.leads files.now) (F.gives files.now) ways.now)) }
 {
-    let FileText { text, outline } = text_of(alloc, bytes)?;
+    let FileText {
+        text,
+        outline,
+        written,
+    } = text_of(alloc, bytes)?;
     match outline {
         Ok(outline) => {
-            let base = found.uri.as_str();
-            let targets = follow_links(alloc, files, ways, walk, file, base, &outline)?;
+            let targets = follow_links(alloc, files, ways, walk, file, &found, &outline)?;
             Ok(Followed {
                 found,
                 text,
+                written,
                 outline: Some(outline),
                 targets,
             })
         }
         Err(wrong) => {
             walk.note(FaultPlace::Text { file, at: wrong.at }, wrong.kind)?;
-            Ok(faulty_file(alloc, found, text))
+            Ok(faulty_file(alloc, found, text, written))
         }
     }
 }
 
 /// A file that is at fault, with what was read of it.
-fn faulty_file(alloc: Global, found: FoundFile, text: String) -> Followed
+fn faulty_file(alloc: Global, found: FoundFile, text: String, written: Option<Written>) -> Followed
     ensures outline { IsNone result.outline }
     ensures text { string_bytes result.text ≡ string_bytes text }
+    ensures written { result.written ≡ written }
 {
     Followed {
         found,
         text,
+        written,
         outline: None,
         targets: Vec::new(alloc),
     }
@@ -275,9 +335,10 @@ fn follow<F: Files>(
     let found = walk.entries[file].found.clone()?;
     let place = walk.entries[file].place;
     let answer = read_file(alloc, files, ways, &found, kinds_at(place));
-    match walk.note_link(place, answer)? {
+    let shown = found.shown.clone()?;
+    match walk.note_link(place, shown, answer)? {
         Some(bytes) => follow_text(alloc, files, ways, walk, file, found, bytes.as_slice()),
-        None => Ok(faulty_file(alloc, found, String::new(alloc))),
+        None => Ok(faulty_file(alloc, found, String::new(alloc), None)),
     }
 }
 

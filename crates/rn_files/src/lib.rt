@@ -23,6 +23,7 @@ mod module_names;
 mod paths;
 mod positions;
 mod root_folder;
+mod shown_paths;
 mod soundness;
 mod source_faults;
 mod source_reading;
@@ -40,7 +41,9 @@ pub use module_names::module_name;
 pub use paths::remove_dot_segments;
 pub use positions::{line_of, position};
 pub use source_faults::{FaultPlace, SourceFault, SourceFaultKind};
-pub use source_reading::{Reading, ReadingFault, read_sources};
-pub use sources::{Asked, Attempt, SourceFile, Sources};
+pub use source_reading::{
+    LinkedFiles, Reading, ReadingFault, read_files, read_sources, sources_of,
+};
+pub use sources::{Asked, Attempt, SourceFile, Sources, Written};
 pub use uri_references::{ReferenceFault, resolve};
 pub use walk::MAX_SOURCES;

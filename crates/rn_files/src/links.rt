@@ -7,6 +7,7 @@ use crate::bounds::{Ways, is_hidden, may_be_read};
 use crate::files::{FileFault, Files, Kinds};
 use crate::maps::{Location, Map, locate};
 use crate::module_names::module_name;
+use crate::shown_paths::shown_path;
 use crate::source_faults::SourceFaultKind;
 use crate::uri_references::ReferenceFault;
 use crate::walk::{FoundBy, FoundFile};
@@ -24,6 +25,8 @@ pub enum LinkFault {
     Outside,
     /// The name of the file's module would be too long.
     Name,
+    /// The file was named before by another word.
+    Twice,
     /// The file is one too many.
     Count,
     /// A request for memory was refused.
@@ -31,13 +34,23 @@ pub enum LinkFault {
 }
 
 impl LinkFault {
-    /// The fault as it is kept.
+    /// The fault of a reference as it is kept, with the path or the URI that was tried.
+    pub fn kind_at_reference(self, tried: String) -> SourceFaultKind {
+        match self {
+            LinkFault::File(fault) => SourceFaultKind::Target { path: tried, fault },
+            LinkFault::Reference(ReferenceFault::Scheme) => SourceFaultKind::Unmapped(tried),
+            fault => fault.kind(),
+        }
+    }
+
+    /// The fault of a word as it is kept.
     pub fn kind(self) -> SourceFaultKind {
         match self {
             LinkFault::Reference(fault) => SourceFaultKind::Reference(fault),
             LinkFault::File(fault) => SourceFaultKind::File(fault),
             LinkFault::Outside => SourceFaultKind::Outside,
             LinkFault::Name => SourceFaultKind::Name,
+            LinkFault::Twice => SourceFaultKind::Twice,
             LinkFault::Count => SourceFaultKind::Count,
             LinkFault::Memory => SourceFaultKind::File(FileFault::Memory),
         }
@@ -68,11 +81,33 @@ impl From<ReferenceFault> for LinkFault {
     }
 }
 
-/// How a path is told to people: from the current folder, where it lies below.
-fn shown_path<'p>(current: &str, path: &'p str) -> &'p str {
-    match path.strip_prefix(current) {
-        Some(rest) => rest.strip_prefix('/').unwrap_or(path),
-        None => path,
+/// How the file at a real path is told to people, where another file refers to it: as a real path where that one is told
+/// by a path from the topmost folder, else from the current folder.
+fn shown_beside(
+    alloc: Global,
+    ways: &Ways<'_>,
+    from: &FoundFile,
+    path: &str,
+) -> Result<String, AllocError> {
+    if from.shown.starts_with('/') {
+        String::from_str(alloc, path)
+    } else {
+        shown_path(alloc, ways.current, path)
+    }
+}
+
+/// What is told to people of a reference that led to no file: the path where the file of the URI was looked for, or the
+/// URI where no path is known.
+pub fn tried_place(
+    alloc: Global,
+    ways: &Ways<'_>,
+    from: &FoundFile,
+    uri: &str,
+) -> Result<String, AllocError> {
+    match locate(alloc, ways.maps, uri) {
+        Ok(leads) => shown_beside(alloc, ways, from, leads.path.as_str()),
+        Err(ReferenceFault::Memory) => Err(AllocError),
+        Err(_) => String::from_str(alloc, uri),
     }
 }
 
@@ -134,11 +169,12 @@ fn real_path<F: Files>(
     }
 }
 
-/// The file to which a URI leads, which may be read.
+/// The file to which a URI leads that a file refers to, which may be read.
 pub fn found_at<F: Files>(
     alloc: Global,
     files: &F,
     ways: &Ways<'_>,
+    from: &FoundFile,
     uri: String,
 ) -> Result<FoundFile, LinkFault>
     ensures uri { IfOk result (λ file. string_bytes file.uri ≡ string_bytes uri) }
@@ -148,9 +184,10 @@ pub fn found_at<F: Files>(
     let leads = location(alloc, ways.maps, uri.as_str())?;
     check_name(alloc, ways, uri.as_str(), &leads)?;
     let path = real_path(alloc, files, ways, uri.as_str(), leads.path.as_str())?;
-    let shown = String::from_str(alloc, shown_path(ways.current, path.as_str()))?;
+    let shown = shown_beside(alloc, ways, from, path.as_str())?;
     let by = found_by(&leads);
     let found = FoundFile {
+        spelled: path.clone()?,
         path,
         shown,
         uri,

@@ -2,9 +2,12 @@
 ghost use Rattle.std.specs.Prelude.{◌≡◌, ◌<◌, ◌≤◌, length, count_by, slice_index, drop, take_while};
 ghost use Rattle.std.specs.List.{prefix_len};
 ghost use Rattle.std.specs.Str.{IsCharBoundary};
-ghost use Rattle.rn_files.specs.TextLines.{IsLineOf, IsPosition, begins_character, is_inside};
+ghost use Rattle.rn_files.specs.TextLines.{IsLineOf, IsPosition, IsPositionIn, begins_character, is_inside, mark_length};
 
 use crate::line_breaks::{Position, line_at};
+
+/// The byte order mark that may stand before a text (RFC 3629, section 6).
+const MARK: [u8; 3] = [0xEF, 0xBB, 0xBF];
 
 /// Whether a character of a text begins with the byte.
 fn begins_character(byte: u8) -> bool
@@ -20,12 +23,33 @@ fn count_characters(bytes: &[u8]) -> usize
     bytes.iter().filter(|byte| begins_character(**byte)).count()
 }
 
+/// How many bytes the mark has that stands before a text; 0 where there is none.
+fn mark_length(bytes: &[u8]) -> usize
+    ensures within { result ≤ length bytes.now }
+    ensures is { result ≡ mark_length bytes.now }
+{
+    if bytes.starts_with(&MARK) {
+        MARK.len()
+    } else {
+        0
+    }
+}
+
 /// Where the byte at `at` stands; behind the last byte where the text has no more. Lines end by LF, CR LF or CR, and an
-/// end stands in the line that it closes. The column counts the characters before the byte. One walk over the text.
+/// end stands in the line that it closes. The column counts the characters before the byte, but for a byte order mark
+/// before the text. One walk over the text.
 pub fn position(text: &str, at: usize) -> Position
     ensures { IsPosition text.now at result.line result.column }
 {
     let bytes = text.as_bytes();
+    let mark = mark_length(bytes);
+    position_in(&bytes[mark..], at.saturating_sub(mark))
+}
+
+/// Where the byte stands in bytes without a mark.
+fn position_in(bytes: &[u8], at: usize) -> Position
+    ensures { IsPositionIn bytes.now at result.line result.column }
+{
     let (line, start) = line_at(bytes, at);
     let before = &bytes[start..at.min(bytes.len())];
     Position {

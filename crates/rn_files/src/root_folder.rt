@@ -39,7 +39,7 @@ fn outer_folder(folder: &str) -> &str {
 }
 
 /// The deepest folder that has both the path and all of the folder in it.
-fn shared_folder<'p>(folder: &'p str, path: &str) -> &'p str {
+pub fn shared_folder<'p>(folder: &'p str, path: &str) -> &'p str {
     let mut shared = folder;
     for _ in 0..folder.len() {
         if path.starts_with(shared) {

@@ -1,6 +1,11 @@
 // What is wrong with files, and where.
+
 use crate::files::FileFault;
 use crate::uri_references::ReferenceFault;
+use rn_outline::Wanted;
+use rn_translate::RngFaultKind;
+use rn_xml::XmlFaultKind;
+
 /// What a fault is about.
 #[derive(Clone, Copy, Debug, PartialEq, Eq)]
 pub enum FaultPlace {
@@ -22,18 +27,34 @@ pub enum FaultPlace {
 /// What is wrong at the place of a fault.
 #[derive(Debug, Drop, PartialEq, Eq)]
 pub enum SourceFaultKind {
-    /// The file that is named there can't be read.
+    /// The file or the folder that is named there can't be read.
     File(FileFault),
+    /// The file that the reference leads to can't be read.
+    Target {
+        /// Its path, as it is told to people.
+        path: String,
+        /// Why it can't be read.
+        fault: FileFault,
+    },
     /// The reference names no file.
     Reference(ReferenceFault),
+    /// The reference stands for this URI, which no map has a prefix of and which is no `file` URI.
+    Unmapped(String),
+    /// The text begins with the byte order mark of UTF-16.
+    Utf16,
     /// The text is not UTF-8 from the place of the fault on.
     Encoding,
     /// At the place of the fault is what XML does not allow, or what is no token, white space or comment.
     Lexical,
-    /// With the token at the place of the fault, the text is no pattern and no grammar any more.
-    Syntax,
+    /// With the token at the place of the fault, the text is no pattern and no grammar any more; what could come there,
+    /// where it is one of few things.
+    Syntax(Option<Wanted>),
     /// With the bracket at the place of the fault, too many are open at once.
     Deep,
+    /// The document is not well-formed at the place of the fault.
+    Document(XmlFaultKind),
+    /// The document is no schema in the XML syntax, at the place of the fault.
+    Schema(RngFaultKind),
     /// There are more than [`MAX_SOURCES`](crate::MAX_SOURCES) files.
     Count,
     /// The file that is named there doesn't lie below the root folder.

@@ -1,7 +1,7 @@
 // From the files that are asked for to sources.
-ghost use Rattle.std.specs.Prelude.{◌≡◌, [], All, IfErr, IfOk, IfSome, string_bytes};
+ghost use Rattle.std.specs.Prelude.{◌≡◌, [], All, IfErr, IfNone, IfOk, IfSome, string_bytes};
 ghost use Rattle.rn_files.specs.inside.Following.{IsFollowed, IsRootOf, root_path};
-ghost use Rattle.rn_files.specs.ReadableFiles.{IsFrontOfRead, IsReadAt, IsReadFor, IsReadSource, KeepsWhatIsRead};
+ghost use Rattle.rn_files.specs.ReadableFiles.{IsKept, IsReadAt, IsReadFor, IsReadSource, KeepsWhatIsRead};
 ghost use Rattle.rn_files.specs.Sources.{AreSoundSources};
 
 use crate::bounds::Ways;
@@ -23,6 +23,15 @@ pub struct Reading {
     pub files: Vec<Attempt>,
     /// The faults, as they were found; at least one.
     pub faults: Vec<SourceFault>,
+}
+
+/// Files that have no faults of their own, and what is wrong with them together.
+#[derive(Debug, Drop)]
+pub struct LinkedFiles {
+    /// The files, with what each refers to.
+    pub sources: Sources,
+    /// A loop along references, or that the files don't keep what else is promised of sources; `None` where all is kept.
+    pub fault: Option<SourceFault>,
 }
 
 /// Why there are no sources.
@@ -74,13 +83,23 @@ fn given_root<F: Files>(
 fn attempt<F: Files>(_files: &F, _asked: &Asked<'_>, followed: Followed, name: String) -> Attempt
     requires { IsFollowed
         (IsReadFor (F.leads _files.now) (F.gives _files.now) _asked.now) followed }
-    ensures { IsFrontOfRead
+    ensures { IsKept
         (IsReadFor (F.leads _files.now) (F.gives _files.now) _asked.now)
-        (string_bytes result.text) }
+        (string_bytes result.text) result.written }
 {
-    let Followed { found, text, .. } = followed;
+    let Followed {
+        found,
+        text,
+        written,
+        ..
+    } = followed;
     let FoundFile { shown, .. } = found;
-    Attempt { name, shown, text }
+    Attempt {
+        name,
+        shown,
+        text,
+        written,
+    }
 }
 
 /// What was read on a walk that found faults, and what is wrong.
@@ -94,9 +113,9 @@ fn reading_of_walk<F: Files>(
 ) -> Result<Reading, AllocError>
     requires { All (IsFollowed
         (IsReadFor (F.leads _files.now) (F.gives _files.now) _asked.now)) followed.items }
-    ensures { IfOk result (λ reading. All (λ a. IsFrontOfRead
+    ensures { IfOk result (λ reading. All (λ a. IsKept
         (IsReadFor (F.leads _files.now) (F.gives _files.now) _asked.now)
-        (string_bytes a.text)) reading.files.items) }
+        (string_bytes a.text) a.written) reading.files.items) }
 {
     let mut files = Vec::new(alloc);
     for (followed, name) in followed.into_iter().zip(names) {
@@ -121,6 +140,7 @@ fn source<F: Files>(
     let Followed {
         found,
         text,
+        written,
         outline,
         targets,
     } = followed;
@@ -137,6 +157,7 @@ fn source<F: Files>(
             path,
             uri,
             text,
+            written,
             outline,
             targets,
         }),
@@ -170,17 +191,23 @@ fn sources<F: Files>(
 fn attempt_of_source<F: Files>(_files: &F, _asked: &Asked<'_>, source: SourceFile) -> Attempt
     requires { IsReadSource
         (IsReadFor (F.leads _files.now) (F.gives _files.now) _asked.now) source }
-    ensures { IsFrontOfRead
+    ensures { IsKept
         (IsReadFor (F.leads _files.now) (F.gives _files.now) _asked.now)
-        (string_bytes result.text) }
+        (string_bytes result.text) result.written }
 {
     let SourceFile {
         name,
         shown,
         text,
+        written,
         ..
     } = source;
-    Attempt { name, shown, text }
+    Attempt {
+        name,
+        shown,
+        text,
+        written,
+    }
 }
 
 /// What was read of files that have no fault of their own, and what is wrong with them together.
@@ -193,9 +220,9 @@ fn reading_of_sources<F: Files>(
 ) -> Result<Reading, AllocError>
     requires { All (IsReadSource
         (IsReadFor (F.leads _files.now) (F.gives _files.now) _asked.now)) sources.files.items }
-    ensures { IfOk result (λ reading. All (λ a. IsFrontOfRead
+    ensures { IfOk result (λ reading. All (λ a. IsKept
         (IsReadFor (F.leads _files.now) (F.gives _files.now) _asked.now)
-        (string_bytes a.text)) reading.files.items) }
+        (string_bytes a.text) a.written) reading.files.items) }
 {
     let Sources { files, .. } = sources;
     let mut attempts = Vec::new(alloc);
@@ -210,21 +237,24 @@ fn reading_of_sources<F: Files>(
     })
 }
 
-/// Sources without loops along references.
-fn check_sources<F: Files>(
+/// The sources that files are, where nothing is wrong with them together.
+pub fn sources_of<F: Files>(
     alloc: Global,
     _files: &F,
     _asked: &Asked<'_>,
-    sources: Sources,
+    linked: LinkedFiles,
 ) -> Result<Sources, ReadingFault>
-    requires { All (IsReadSource
-        (IsReadFor (F.leads _files.now) (F.gives _files.now) _asked.now)) sources.files.items }
+    requires sound { IfNone linked.fault (AreSoundSources linked.sources) }
+    requires texts { All (IsReadSource
+        (IsReadFor (F.leads _files.now) (F.gives _files.now) _asked.now))
+        linked.sources.files.items }
     ensures sound { IfOk result (λ s. AreSoundSources s) }
-    ensures same { IfOk result (λ s. s ≡ sources) }
+    ensures same { IfOk result (λ s. s ≡ linked.sources) }
     ensures kept { IfErr result (KeepsWhatIsRead
         (IsReadFor (F.leads _files.now) (F.gives _files.now) _asked.now)) }
 {
-    match sources_fault(alloc, &sources)? {
+    let LinkedFiles { sources, fault } = linked;
+    match fault {
         Some(fault) => {
             let reading = reading_of_sources(alloc, _files, _asked, sources, fault)?;
             Err(ReadingFault::Faults(reading))
@@ -276,6 +306,7 @@ fn follow_words<F: Files>(
         maps: asked.maps,
         current,
         root,
+        input: asked.input,
     };
     let roots = enter_words(alloc, files, &ways, walk, asked.files)?;
     let followed = follow_all(alloc, files, &ways, walk)?;
@@ -367,6 +398,23 @@ pub fn read_sources<F: Files>(
     ensures kept { IfErr result (KeepsWhatIsRead
         (IsReadFor (F.leads files.now) (F.gives files.now) asked.now)) }
 {
+    let linked = read_files(alloc, files, asked)?;
+    sources_of(alloc, files, asked, linked)
+}
+
+/// The files that are asked for and all that they refer to, as [`read_sources`] answers them, but loops along references
+/// are no fault here: one is answered with the files.
+pub fn read_files<F: Files>(
+    alloc: Global,
+    files: &F,
+    asked: &Asked<'_>,
+) -> Result<LinkedFiles, ReadingFault>
+    ensures sound { IfOk result (λ l. IfNone l.fault (AreSoundSources l.sources)) }
+    ensures texts { IfOk result (λ l. All (IsReadSource
+        (IsReadFor (F.leads files.now) (F.gives files.now) asked.now)) l.sources.files.items) }
+    ensures kept { IfErr result (KeepsWhatIsRead
+        (IsReadFor (F.leads files.now) (F.gives files.now) asked.now)) }
+{
     let mut walk = Walk::new(alloc);
     let FoundFiles {
         files: found,
@@ -382,5 +430,6 @@ pub fn read_sources<F: Files>(
         files: sources(alloc, files, asked, followed, names)?,
         roots,
     };
-    check_sources(alloc, files, asked, sources)
+    let fault = sources_fault(alloc, &sources)?;
+    Ok(LinkedFiles { sources, fault })
 }

@@ -1,6 +1,10 @@
 // The files, root folder and maps that are asked for, and the sources that are answered.
+ghost use Rattle.std.specs.Prelude.{◌≡◌, MatchOption};
+ghost use Rattle.rn_translate.specs.Places.{origin_of};
+
 use crate::maps::Map;
 use rn_outline::Outline;
+use rn_translate::Places;
 
 /// What is asked for: files, a root folder and maps.
 #[derive(Clone, Copy)]
@@ -12,6 +16,32 @@ pub struct Asked<'a> {
     pub root: Option<&'a str>,
     /// Where URIs lie; of maps with one prefix the first counts.
     pub maps: &'a [Map],
+    /// The path of the file that standard input is read in place of. `None` where it has none: it is told as `-`, and what
+    /// it refers to is looked for from the current folder.
+    pub input: Option<&'a str>,
+}
+
+/// What is written in a file in the XML syntax.
+#[derive(Debug, Drop, PartialEq, Eq)]
+pub struct Written {
+    /// The text of the document, in UTF-8.
+    pub text: String,
+    /// Where the bytes of the compact text come from, which was made of it; `None` where the document is at fault, and
+    /// places are its own.
+    pub places: Option<Places>,
+}
+
+impl Written {
+    /// The byte of the document's text that a byte of the compact text was made for.
+    pub fn origin(&self, at: usize) -> usize
+        ensures { MatchOption self.now.places (result ≡ at)
+            (λ places. result ≡ origin_of places.items.items at) }
+    {
+        match &self.places {
+            Some(places) => places.origin(at),
+            None => at,
+        }
+    }
 }
 
 /// A file that was read.
@@ -19,14 +49,17 @@ pub struct Asked<'a> {
 pub struct SourceFile {
     /// The name of the file's module.
     pub name: String,
-    /// The file as it is told to people: as it was asked for, or its path from the current folder.
+    /// The file as it is told to people: as it was asked for, or its path from the current folder, or its real path where
+    /// the file that refers to it is told by a path from the topmost folder.
     pub shown: String,
     /// The real path of the file, or `-` for standard input.
     pub path: String,
     /// The URI that the file's references are resolved against (RFC 3986, section 5.1).
     pub uri: String,
-    /// The bytes of the file.
+    /// The bytes of the file; of one in the XML syntax the text of the compact syntax that was made of it.
     pub text: String,
+    /// What is written in the file, if it is in the XML syntax.
+    pub written: Option<Written>,
     /// The outline of the text.
     pub outline: Outline,
     /// For each external and include of the outline, in order, the number of the file that is meant.
@@ -49,6 +82,9 @@ pub struct Attempt {
     pub name: String,
     /// The file as it is told to people.
     pub shown: String,
-    /// The front of the file's text that is UTF-8.
+    /// The front of the file's text that is UTF-8; of a file in the XML syntax the compact text that was made of it, none
+    /// where the document is at fault.
     pub text: String,
+    /// What is written in the file, if it is in the XML syntax: its document, as far as it could be decoded.
+    pub written: Option<Written>,
 }

@@ -5,6 +5,7 @@ ghost use Rattle.rn_files.specs.inside.Following.{EntriesGrow};
 use crate::files::FileFault;
 use crate::links::LinkFault;
 use crate::source_faults::{FaultPlace, SourceFault, SourceFaultKind};
+use crate::sources::Written;
 use crate::uri_references::ReferenceFault;
 use rn_outline::Outline;
 use std::alloc::{AllocError, Global};
@@ -16,9 +17,9 @@ pub const MAX_SOURCES: usize = rn_modset::MAX_CONTRIBUTIONS;
 /// How a file was found.
 #[derive(Clone, Copy, Debug, PartialEq, Eq)]
 pub enum FoundBy {
-    /// It is standard input.
+    /// It is standard input, for which no path is given.
     Input,
-    /// By its path.
+    /// By its path, or it is standard input in place of the file at that path.
     Path,
     /// By a map of URIs.
     Map,
@@ -29,6 +30,8 @@ pub enum FoundBy {
 pub struct FoundFile {
     /// The real path of the file, or `-` for standard input.
     pub path: String,
+    /// The path that names the file: its real path. Of standard input it is the one that is given for it, or `-`.
+    pub spelled: String,
     /// The file as it is told to people.
     pub shown: String,
     /// The URI that the file's references are resolved against (RFC 3986, section 5.1).
@@ -53,6 +56,8 @@ pub struct Followed {
     pub found: FoundFile,
     /// The text, or as much of it as is UTF-8.
     pub text: String,
+    /// What is written in the file, if it is in the XML syntax.
+    pub written: Option<Written>,
     /// What the text is made of, if it has no fault.
     pub outline: Option<Outline>,
     /// The numbers of the files that its links mean, in order.
@@ -64,7 +69,7 @@ pub struct Followed {
 pub struct Walk {
     /// The files, in the order in which they were found.
     pub entries: Vec<Entry>,
-    /// Of each path, the number of its file.
+    /// Of each path that names a file, the number of the file.
     pub numbers: BTreeMap<String, usize>,
     /// Of each URI that was looked up, the number of its file, or its fault.
     pub led: BTreeMap<String, Result<usize, LinkFault>>,
@@ -74,6 +79,14 @@ pub struct Walk {
     pub is_full: bool,
     /// The faults, in the order in which they were found.
     pub faults: Vec<SourceFault>,
+}
+
+/// A fault as it is kept.
+fn link_kind(place: FaultPlace, tried: String, fault: LinkFault) -> SourceFaultKind {
+    match place {
+        FaultPlace::Text { .. } => fault.kind_at_reference(tried),
+        _ => fault.kind(),
+    }
 }
 
 impl Walk {
@@ -135,10 +148,12 @@ impl Walk {
         }
     }
 
-    /// What a word or a reference led to; a fault is kept, and is then none.
+    /// What a word or a reference led to; a fault is kept, with the path or the URI that was tried for a reference, and
+    /// is then none.
     pub fn note_link<T: Drop>(
         &mut self,
         place: FaultPlace,
+        tried: String,
         led: Result<T, LinkFault>,
     ) -> Result<Option<T>, AllocError>
         ensures grows { EntriesGrow self.old self.new }
@@ -148,7 +163,7 @@ impl Walk {
             Ok(value) => Ok(Some(value)),
             Err(LinkFault::Memory) => Err(AllocError),
             Err(fault) => {
-                self.note(place, fault.kind())?;
+                self.note(place, link_kind(place, tried, fault))?;
                 Ok(None)
             }
         }
@@ -173,7 +188,7 @@ impl Walk {
     pub fn enter(&mut self, found: FoundFile, place: FaultPlace) -> Result<usize, LinkFault>
         ensures { EntriesGrow self.old self.new }
     {
-        if let Some(number) = self.numbers.get(found.path.as_str()) {
+        if let Some(number) = self.numbers.get(found.spelled.as_str()) {
             return Ok(*number);
         }
         if self.entries.len() >= MAX_SOURCES {
@@ -188,9 +203,9 @@ impl Walk {
         ensures { EntriesGrow self.old self.new }
     {
         let number = self.entries.len();
-        let path = found.path.clone()?;
+        let spelled = found.spelled.clone()?;
         self.entries.push(Entry { found, place })?;
-        self.numbers.insert(path, number)?;
+        self.numbers.insert(spelled, number)?;
         Ok(number)
     }
 }

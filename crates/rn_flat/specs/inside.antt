@@ -1,3 +1,2 @@
 -- What contracts of private functions speak of. No public contract cites it.
-pub mod Outputs
 pub mod ToldFiles

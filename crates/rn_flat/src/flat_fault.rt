@@ -2,7 +2,7 @@
 ghost use Rattle.std.specs.Prelude.{◌≡◌};
 ghost use Rattle.rn_flat.specs.FlatFaults.{status};
 
-use rn_tell::{Colours, Messages, Page, message_lines};
+use rn_tell::{Format, Message, MessageKind, Messages, Page, message_text};
 use std::alloc::{AllocError, AllocFailed, Global};
 
 /// Why the program does not do its work, with the lines that say so.
@@ -42,15 +42,37 @@ impl<T: Drop> From<AllocFailed<T>> for FlatFault {
     }
 }
 
-/// The lines of a fault, each with its line end.
-pub fn fault_lines(fault: &FlatFault) -> &str {
+/// What is said where memory ran out.
+const NO_MEMORY: &str = "rnc-flat: error: out of memory\n";
+
+/// The same as an object.
+const NO_MEMORY_OBJECT: &str =
+    "{\"severity\":\"error\",\"kind\":\"memory\",\"sentence\":\"out of memory\",\"places\":[]}\n";
+
+/// The lines of a fault, each with its line end. It takes no memory.
+pub fn fault_lines(fault: &FlatFault, format: Format) -> &str {
     match fault {
         FlatFault::Usage(lines)
         | FlatFault::Refused(lines)
         | FlatFault::Unread(lines)
         | FlatFault::Unwritten(lines) => lines.as_str(),
-        FlatFault::Memory => "rnc-flat: error: out of memory\n",
+        FlatFault::Memory => match format {
+            Format::Lines(_) => NO_MEMORY,
+            Format::Json => NO_MEMORY_OBJECT,
+        },
     }
+}
+
+/// A message that is about no place, as it is told.
+pub fn plain_lines(
+    alloc: Global,
+    kind: MessageKind,
+    sentence: String,
+    format: Format,
+) -> Result<String, AllocError> {
+    let message = Message::new(alloc, kind, None, sentence);
+    let told = Messages::of_message(alloc, message)?;
+    message_text(alloc, &[], &told, format)
 }
 
 /// The status with which the program ends after a fault: 1 where the schema is refused or differs, 2 for the words, 3
@@ -70,8 +92,8 @@ pub fn refusal_fault(
     alloc: Global,
     pages: &[Page<'_>],
     told: &Messages,
-    colours: Colours,
+    format: Format,
 ) -> Result<FlatFault, AllocError> {
-    let lines = message_lines(alloc, pages, told, colours)?;
+    let lines = message_text(alloc, pages, told, format)?;
     Ok(FlatFault::Refused(lines))
 }

@@ -1,138 +1,289 @@
 // The work of the program: files are read and lifted, and what is asked for is made, and written or compared.
-ghost use Rattle.std.specs.Prelude.{◌≡◌, false, map, string_bytes, IfOk};
+ghost use Rattle.std.specs.Prelude.{◌≡◌, ℕ, List, false, map, string_bytes, All, IfNone, IfOk, IfSome, OnOk};
+ghost use Rattle.rn_assemble.specs.GrammarView.{grammar_view};
+ghost use Rattle.rn_assemble.specs.ShortTexts.{short_texts};
+ghost use Rattle.rn_files.specs.ReadableFiles.{IsGiven, IsReadFor, IsReadSource};
+ghost use Rattle.rn_files.specs.Sources.{AreSoundSources};
 ghost use Rattle.rn_flat.specs.FlatFaults.{LeavesOutput};
-ghost use Rattle.rn_flat.specs.ModuleSets.{IsSetOf};
+ghost use Rattle.rn_flat.specs.JobResults.{Delivers, HasFlatSchema, IsFlatGrammarOf, IsFlatSchema, IsFlatSchemaOf, IsProduct, IsSchemaIn, IsUnusedText, TellsByEnding, WritesNothing};
 ghost use Rattle.rn_flat.specs.inside.ToldFiles.{told_of};
 ghost use Rattle.rn_rng.specs.Written.{IsXmlOf};
-ghost use Rattle.rn_flat.specs.JobResults.{Delivers, IsProduct, IsFlatSchema, IsFlatSchemaOf, IsSchemaIn};
 
 use crate::compare::check_file;
-use crate::flat_fault::{FlatFault, refusal_fault};
-use crate::module_set::set_of;
+use crate::definition_lines::{origins_text, unused_text};
+use crate::ending::Ending;
+use crate::flat_fault::{FlatFault, plain_lines};
+use crate::gathering::{fault_with_messages, lift_files, module_set};
+use crate::lint::lint;
 use crate::outputs::{Outputs, check_output, write_file, write_standard};
 use crate::products::{graph_text, list_text};
 use crate::reading_faults::reading_fault;
 use crate::words::{Job, Product, Syntax, Task};
-use rn_assemble::Refusal;
-use rn_files::{Asked, Files, SourceFile, Sources, read_sources};
-use rn_lift::{Lifted, lift};
+use rn_assemble::{Refusal, ShortGrammar, assemble_short};
+use rn_files::{Asked, Files, LinkedFiles, SourceFile, Sources, read_files, sources_of};
+use rn_lift::Lifted;
 use rn_merge::{Sink, merge};
-use rn_modset::{AddFault, ModuleSet, write_bundle};
-use rn_plan::{LiftFaultKind, Lifting};
+use rn_modset::write_bundle;
 use rn_rng::{XmlFault, schema_xml};
-use rn_tell::{Colours, Messages, lift_messages, refusal_messages, set_message, source_pages};
+use rn_tell::{Format, MessageKind, refusal_messages};
 use std::alloc::{AllocError, Global};
 
 /// What is said of a schema that has more than [`rn_rng::MAX_XML`] bytes in the XML syntax.
 const TOO_LARGE_XML: &str =
-    "rnc-flat: error: the flat schema would have more than 67,108,864 bytes in the XML syntax\n";
+    "the flat schema would have more than 67,108,864 bytes in the XML syntax";
 
-/// Reads the files of a job with all that they reach, makes what is asked for, and writes or compares it. Nothing is
-/// written where there is a fault. `Refused` where the files are no schema, or the file that is checked is not the
-/// schema; `Usage` where the output is one of the files that were read; `Unread` where a file can't be read; `Unwritten`
-/// where the output failed: a file is then as it was, standard output took a front.
+/// Reads the files of a job with all that they reach, makes what is asked for, and writes or compares it, or looks for
+/// faults alone. Nothing is written where there is a fault. `Refused` where the files are no schema, or the file that is
+/// checked is not the schema; `Usage` where the output is one of the files that were read; `Unread` where a file can't be
+/// read; `Unwritten` where the output failed: a file is then as it was, standard output took a front.
 ///
 /// A bundle is refused only where files can't be read or lifted or their modules are no set; a list, only for reading
-/// and lifting; a graph, only for reading. Whether their modules have a schema is not looked at.
+/// and lifting; a graph, only for reading: where files refer to themselves, it is drawn, and the answer is `Found`. So it
+/// is where unused definitions are told. Whether the modules of a bundle, a list or a graph have a schema is not looked
+/// at. Faults are looked for alone as for a schema, but it may lack a start and definitions.
 pub fn perform<F: Files, S: Outputs, W: Sink>(
     alloc: Global,
     files: &F,
     job: &Job,
-    colours: Colours,
+    format: Format,
     outputs: &mut S,
     out: &mut W,
-) -> Result<(), FlatFault>
+) -> Result<Ending, FlatFault>
     requires { W.has_failed out.old ≡ false }
     ensures delivers { Delivers job.now.task (W.contents out.old) (W.contents out.new)
         (S.holds outputs.new) (F.gives files.now) result }
     ensures sink { LeavesOutput result (out.new ≡ out.old) }
     ensures outputs { LeavesOutput result (outputs.new ≡ outputs.old) }
+    ensures unwritten { WritesNothing job.now.task (out.new ≡ out.old) (outputs.new ≡ outputs.old) }
 {
-    let asked = Asked {
-        files: job.files.as_slice(),
-        root: job.root.as_ref().map(|root| root.as_str()),
-        maps: job.maps.as_slice(),
-    };
-    let sources = match read_sources(alloc, files, &asked) {
-        Ok(sources) => sources,
-        Err(reading) => return Err(reading_fault(alloc, &asked, &reading, colours)),
+    let asked = asked_of(job);
+    let linked = match read_files(alloc, files, &asked) {
+        Ok(linked) => linked,
+        Err(reading) => return Err(reading_fault(alloc, &asked, &reading, format)),
     };
     match &job.task {
         Task::Write { product, output } => {
             if let Some(path) = output {
-                check_output(alloc, files, sources.files.as_slice(), path.as_str())?;
+                let read = linked.sources.files.as_slice();
+                check_output(alloc, files, read, path.as_str(), format)?;
             }
-            let text = product_text(alloc, sources, *product, colours)?;
+            let made = made_of(alloc, files, &asked, linked, *product, format)?;
+            let text = made.text.as_slice();
             match output {
-                Some(path) => write_file(alloc, outputs, path.as_str(), text.as_slice()),
-                None => write_standard(alloc, out, text.as_slice()),
+                Some(path) => match write_file(alloc, outputs, path.as_str(), text, format) {
+                    Ok(()) => Ok(made.ending),
+                    Err(fault) => Err(fault),
+                },
+                None => match write_standard(alloc, out, text, format) {
+                    Ok(()) => Ok(made.ending),
+                    Err(fault) => Err(fault),
+                },
             }
         }
         Task::Check { file, syntax } => {
-            let text = product_text(alloc, sources, Product::Schema(*syntax), colours)?;
-            check_file(alloc, files, file.as_str(), text.as_slice(), colours)
+            let sources = sound_sources(alloc, files, &asked, linked, format)?;
+            check_schema(alloc, files, sources, file.as_str(), *syntax, format)?;
+            Ok(Ending::Clean)
         }
+        Task::Lint => {
+            let sources = sound_sources(alloc, files, &asked, linked, format)?;
+            lint(alloc, &sources, format)?;
+            Ok(Ending::Clean)
+        }
+    }
+}
+
+/// Refuses a file that is not the schema in this syntax.
+fn check_schema<F: Files>(
+    alloc: Global,
+    files: &F,
+    sources: Sources,
+    file: &str,
+    syntax: Syntax,
+    format: Format,
+) -> Result<(), FlatFault>
+    ensures { OnOk result ((text : List ℕ) × IsSchemaIn syntax text
+        × IsGiven (F.gives files.now) file.now text) }
+{
+    let schema = schema_text(alloc, sources, format)?;
+    let text = spelled(alloc, schema, syntax, format)?;
+    check_file(alloc, files, file, text.as_slice(), format)
+}
+
+/// What the words of a job ask for of files.
+fn asked_of(job: &Job) -> Asked<'_> {
+    Asked {
+        files: job.files.as_slice(),
+        root: job.root.as_ref().map(|root| root.as_str()),
+        maps: job.maps.as_slice(),
+        input: job.input.as_ref().map(|input| input.as_str()),
+    }
+}
+
+/// The files as sources. `Refused` where they refer to themselves.
+fn sound_sources<F: Files>(
+    alloc: Global,
+    files: &F,
+    asked: &Asked<'_>,
+    linked: LinkedFiles,
+    format: Format,
+) -> Result<Sources, FlatFault>
+    requires sound { IfNone linked.fault (AreSoundSources linked.sources) }
+    requires texts { All (IsReadSource
+        (IsReadFor (F.leads files.now) (F.gives files.now) asked.now)) linked.sources.files.items }
+{
+    match sources_of(alloc, files, asked, linked) {
+        Ok(sources) => Ok(sources),
+        Err(reading) => Err(reading_fault(alloc, asked, &reading, format)),
+    }
+}
+
+/// What is made of files, and what was found in them.
+#[derive(Drop)]
+struct Made {
+    text: Vec<u8>,
+    ending: Ending,
+}
+
+/// A product that tells of no faults.
+fn clean(text: Vec<u8>) -> Made
+    ensures text { result.text ≡ text }
+    ensures ending { result.ending ≡ Ending.Clean }
+{
+    Made {
+        text,
+        ending: Ending::Clean,
+    }
+}
+
+/// The lines of unused definitions. Where there are any, they are what was found.
+fn told(alloc: Global, lines: String) -> Made
+    ensures text { result.text.items ≡ string_bytes lines }
+    ensures ending { TellsByEnding result.ending result.text.items }
+{
+    let ending = if lines.is_empty() {
+        Ending::Clean
+    } else {
+        Ending::Found(String::new(alloc))
+    };
+    Made {
+        text: lines.into_bytes(),
+        ending,
     }
 }
 
 /// What is asked for, made of the files.
-fn product_text(
+fn made_of<F: Files>(
+    alloc: Global,
+    files: &F,
+    asked: &Asked<'_>,
+    linked: LinkedFiles,
+    product: Product,
+    format: Format,
+) -> Result<Made, FlatFault>
+    requires sound { IfNone linked.fault (AreSoundSources linked.sources) }
+    requires texts { All (IsReadSource
+        (IsReadFor (F.leads files.now) (F.gives files.now) asked.now)) linked.sources.files.items }
+    ensures { IfOk result (λ made. IsProduct product made.ending made.text.items) }
+{
+    let drawn = drawn_loop(alloc, &linked, product)?;
+    match (sound_sources(alloc, files, asked, linked, format), drawn) {
+        (Ok(sources), _) => product_of(alloc, sources, product, format),
+        (Err(FlatFault::Refused(lines)), Some(drawn)) => Ok(Made {
+            text: drawn.into_bytes(),
+            ending: Ending::Found(lines),
+        }),
+        (Err(fault), _) => Err(fault),
+    }
+}
+
+/// The graph, where it is asked for and files refer to themselves.
+fn drawn_loop(
+    alloc: Global,
+    linked: &LinkedFiles,
+    product: Product,
+) -> Result<Option<String>, AllocError>
+    ensures { IfOk result (λ drawn. IfSome drawn (λ _. product ≡ Product.Graph)) }
+{
+    match (product, &linked.fault) {
+        (Product::Graph, Some(fault)) => {
+            let files = linked.sources.files.as_slice();
+            Ok(Some(graph_text(alloc, files, Some(fault))?))
+        }
+        _ => Ok(None),
+    }
+}
+
+/// What is made of sources.
+fn product_of(
     alloc: Global,
     sources: Sources,
     product: Product,
-    colours: Colours,
-) -> Result<Vec<u8>, FlatFault>
-    ensures { IfOk result (λ text. IsProduct product text.items) }
+    format: Format,
+) -> Result<Made, FlatFault>
+    ensures { IfOk result (λ made. IsProduct product made.ending made.text.items) }
 {
     match product {
         Product::Schema(syntax) => {
-            let schema = schema_text(alloc, sources, colours)?;
-            spelled(alloc, schema, syntax)
+            let schema = schema_text(alloc, sources, format)?;
+            Ok(clean(spelled(alloc, schema, syntax, format)?))
         }
-        Product::Bundle => bundle(alloc, &sources, colours),
-        Product::List => list(alloc, &sources, colours),
-        Product::Graph => Ok(graph_text(alloc, sources.files.as_slice())?.into_bytes()),
+        Product::Bundle => Ok(clean(bundle(alloc, &sources, format)?)),
+        Product::List => Ok(clean(list(alloc, &sources, format)?)),
+        Product::Graph => {
+            let text = graph_text(alloc, sources.files.as_slice(), None)?;
+            Ok(clean(text.into_bytes()))
+        }
+        Product::Unused => Ok(told(alloc, unused(alloc, &sources, format)?)),
+        Product::Origins => Ok(clean(origins(alloc, &sources, format)?)),
     }
 }
 
 /// A schema in one of its syntaxes.
-fn spelled(alloc: Global, schema: String, syntax: Syntax) -> Result<Vec<u8>, FlatFault>
+fn spelled(
+    alloc: Global,
+    schema: String,
+    syntax: Syntax,
+    format: Format,
+) -> Result<Vec<u8>, FlatFault>
     requires { IsFlatSchema (string_bytes schema) }
     ensures { IfOk result (λ text. IsSchemaIn syntax text.items) }
 {
     match syntax {
         Syntax::Compact => Ok(schema.into_bytes()),
-        Syntax::Xml => xml_bytes(alloc, schema.as_str()),
+        Syntax::Xml => xml_bytes(alloc, schema.as_str(), format),
     }
 }
 
 /// The XML of a schema. `Refused` where it would be too long.
-fn xml_bytes(alloc: Global, schema: &str) -> Result<Vec<u8>, FlatFault>
+fn xml_bytes(alloc: Global, schema: &str, format: Format) -> Result<Vec<u8>, FlatFault>
     ensures { IfOk result (λ text. IsXmlOf schema.now text.items) }
 {
     match schema_xml(alloc, schema) {
         Ok(xml) => Ok(xml.into_bytes()),
         Err(XmlFault::Memory) => Err(FlatFault::Memory),
         Err(XmlFault::TooLarge | XmlFault::NoSchema) => {
-            Err(FlatFault::Refused(String::from_str(alloc, TOO_LARGE_XML)?))
+            let sentence = String::from_str(alloc, TOO_LARGE_XML)?;
+            let lines = plain_lines(alloc, MessageKind::Limit, sentence, format)?;
+            Err(FlatFault::Refused(lines))
         }
     }
 }
 
 /// The list of the modules that the files become.
-fn list(alloc: Global, sources: &Sources, colours: Colours) -> Result<Vec<u8>, FlatFault> {
-    let lifted = lift_files(alloc, sources, colours)?;
+fn list(alloc: Global, sources: &Sources, format: Format) -> Result<Vec<u8>, FlatFault> {
+    let lifted = lift_files(alloc, sources, format)?;
     Ok(list_text(alloc, &lifted, sources.files.as_slice())?.into_bytes())
 }
 
 /// The schema, made of the files.
-fn schema_text(alloc: Global, sources: Sources, colours: Colours) -> Result<String, FlatFault>
+fn schema_text(alloc: Global, sources: Sources, format: Format) -> Result<String, FlatFault>
     ensures { IfOk result (λ text. IsFlatSchema (string_bytes text)) }
 {
-    let lifted = lift_files(alloc, &sources, colours)?;
+    let lifted = lift_files(alloc, &sources, format)?;
     let mut files = sources.files;
     give_up_outlines(alloc, &mut files);
-    schema(alloc, &lifted, files.as_slice(), colours)
+    schema(alloc, &lifted, files.as_slice(), format)
 }
 
 /// Gives up the outlines of lifted files: messages need their names and texts alone.
@@ -153,63 +304,62 @@ fn give_up_outline(alloc: Global, file: &mut SourceFile)
 }
 
 /// The bundle of the modules, made of the files.
-fn bundle(alloc: Global, sources: &Sources, colours: Colours) -> Result<Vec<u8>, FlatFault> {
-    let lifted = lift_files(alloc, sources, colours)?;
-    let set = module_set(alloc, &lifted, sources.files.as_slice(), colours)?;
+fn bundle(alloc: Global, sources: &Sources, format: Format) -> Result<Vec<u8>, FlatFault> {
+    let lifted = lift_files(alloc, sources, format)?;
+    let set = module_set(alloc, &lifted, sources.files.as_slice(), format)?;
     Ok(write_bundle(alloc, &set)?)
 }
 
-/// The modules that the files become.
-fn lift_files(alloc: Global, sources: &Sources, colours: Colours) -> Result<Lifted, FlatFault> {
-    let mut files = Vec::new(alloc);
-    for file in sources.files.as_slice() {
-        files.push(Lifting {
-            name: file.name.as_str(),
-            text: file.text.as_str(),
-            outline: &file.outline,
-            targets: file.targets.as_slice(),
-        })?;
-    }
-    match lift(alloc, files.as_slice(), sources.roots.as_slice()) {
-        Ok(lifted) => Ok(lifted),
-        Err(fault) if fault.kind == LiftFaultKind::Memory => Err(FlatFault::Memory),
-        Err(fault) => {
-            let files = sources.files.as_slice();
-            let told = lift_messages(alloc, files, &fault)?;
-            Err(fault_with_messages(alloc, files, &told, colours)?)
-        }
-    }
+/// The lines that tell of unused definitions.
+fn unused(alloc: Global, sources: &Sources, format: Format) -> Result<String, FlatFault>
+    ensures { IfOk result (λ text. IsUnusedText (string_bytes text)) }
+{
+    let lifted = lift_files(alloc, sources, format)?;
+    let files = sources.files.as_slice();
+    let grammar = grammar(alloc, &lifted, files, format)?;
+    Ok(unused_text(alloc, &grammar.grammar, &lifted, files)?)
 }
 
-/// The files are refused, with what is told of them.
-fn fault_with_messages(
-    alloc: Global,
-    files: &[SourceFile],
-    told: &Messages,
-    colours: Colours,
-) -> Result<FlatFault, AllocError> {
-    let pages = source_pages(alloc, files)?;
-    refusal_fault(alloc, pages.as_slice(), told, colours)
+/// The lines that tell where the definitions of the schema are.
+fn origins(alloc: Global, sources: &Sources, format: Format) -> Result<Vec<u8>, FlatFault>
+    ensures { IfOk result (λ _. HasFlatSchema) }
+{
+    let lifted = lift_files(alloc, sources, format)?;
+    let files = sources.files.as_slice();
+    let schema = schema(alloc, &lifted, files, format)?;
+    Ok(origins_text(alloc, schema.as_str(), &lifted, files)?.into_bytes())
 }
 
-/// The set of the modules.
-fn module_set(
+/// The grammar of the modules.
+fn grammar(
     alloc: Global,
     lifted: &Lifted,
     files: &[SourceFile],
-    colours: Colours,
-) -> Result<ModuleSet, FlatFault>
-    ensures { IfOk result (IsSetOf lifted.now.modules.items) }
+    format: Format,
+) -> Result<ShortGrammar, FlatFault>
+    ensures { IfOk result (λ g. IsFlatGrammarOf lifted.now.modules.items
+        (short_texts g.uris) (grammar_view g.grammar)) }
 {
-    match set_of(alloc, lifted.modules.as_slice()) {
-        Ok(set) => Ok(set),
-        Err(fault) if fault.fault == AddFault::Memory => Err(FlatFault::Memory),
-        Err(fault) => {
-            let message = set_message(alloc, lifted, fault.module, &fault.fault)?;
-            let told = Messages::of_message(alloc, message)?;
-            Err(fault_with_messages(alloc, files, &told, colours)?)
-        }
+    let set = module_set(alloc, lifted, files, format)?;
+    match assemble_short(alloc, &set) {
+        Ok(grammar) => Ok(grammar),
+        Err(refusal) => Err(set_fault(alloc, lifted, files, &refusal, format)?),
     }
+}
+
+/// The fault of a set that is refused.
+fn set_fault(
+    alloc: Global,
+    lifted: &Lifted,
+    files: &[SourceFile],
+    refusal: &Refusal,
+    format: Format,
+) -> Result<FlatFault, AllocError> {
+    if *refusal == Refusal::Memory {
+        return Ok(FlatFault::Memory);
+    }
+    let told = refusal_messages(alloc, files, lifted, refusal)?;
+    fault_with_messages(alloc, files, &told, format)
 }
 
 /// The schema of the modules.
@@ -217,17 +367,13 @@ fn schema(
     alloc: Global,
     lifted: &Lifted,
     files: &[SourceFile],
-    colours: Colours,
+    format: Format,
 ) -> Result<String, FlatFault>
     ensures { IfOk result (λ text. IsFlatSchemaOf lifted.now.modules.items (string_bytes text)) }
 {
-    let set = module_set(alloc, lifted, files, colours)?;
+    let set = module_set(alloc, lifted, files, format)?;
     match merge(alloc, &set) {
         Ok(text) => Ok(text),
-        Err(Refusal::Memory) => Err(FlatFault::Memory),
-        Err(refusal) => {
-            let told = refusal_messages(alloc, files, lifted, &refusal)?;
-            Err(fault_with_messages(alloc, files, &told, colours)?)
-        }
+        Err(refusal) => Err(set_fault(alloc, lifted, files, &refusal, format)?),
     }
 }

@@ -5,17 +5,24 @@
 //! `rn_merge::merge` answers, and where there is none it writes nothing.
 #![tactic(auto)]
 
+mod asked_tasks;
 pub mod compare;
+pub mod definition_lines;
+pub mod ending;
 pub mod flat_fault;
+mod gathering;
 pub mod jobs;
+pub mod lint;
 pub mod module_set;
 pub mod outputs;
 mod products;
 mod reading_faults;
+pub mod unreached;
 pub mod words;
 
+pub use ending::{Ending, ending_status};
 pub use flat_fault::{FlatFault, fault_lines, status};
 pub use jobs::perform;
-pub use outputs::Outputs;
-pub use rn_tell::Colours;
-pub use words::{Job, Product, Syntax, Task, Words, WordsFault, read_words};
+pub use outputs::{Outputs, STANDARD_OUTPUT, WriteFault, unwritten_fault};
+pub use rn_tell::{Colours, Format};
+pub use words::{ColourChoice, Job, Product, Syntax, Task, Words, WordsFault, read_words};

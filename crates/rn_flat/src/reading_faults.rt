@@ -1,7 +1,7 @@
 // What is wrong with the files that are read.
 use crate::flat_fault::FlatFault;
 use rn_files::{Asked, Reading, ReadingFault};
-use rn_tell::{Colours, attempt_pages, is_unread, message_lines, reading_messages};
+use rn_tell::{Format, attempt_pages, is_unread, message_text, reading_messages};
 use std::alloc::{AllocError, Global};
 
 /// The fault of reading.
@@ -9,11 +9,11 @@ pub fn reading_fault(
     alloc: Global,
     asked: &Asked<'_>,
     fault: &ReadingFault,
-    colours: Colours,
+    format: Format,
 ) -> FlatFault {
     match fault {
         ReadingFault::Memory => FlatFault::Memory,
-        ReadingFault::Faults(reading) => match reading_lines(alloc, asked, reading, colours) {
+        ReadingFault::Faults(reading) => match reading_lines(alloc, asked, reading, format) {
             Ok(fault) => fault,
             Err(_) => FlatFault::Memory,
         },
@@ -25,11 +25,11 @@ fn reading_lines(
     alloc: Global,
     asked: &Asked<'_>,
     reading: &Reading,
-    colours: Colours,
+    format: Format,
 ) -> Result<FlatFault, AllocError> {
-    let told = reading_messages(alloc, asked.files, reading)?;
+    let told = reading_messages(alloc, asked, reading)?;
     let pages = attempt_pages(alloc, reading.files.as_slice())?;
-    let lines = message_lines(alloc, pages.as_slice(), &told, colours)?;
+    let lines = message_text(alloc, pages.as_slice(), &told, format)?;
     if reading.faults.iter().any(is_unread) {
         Ok(FlatFault::Unread(lines))
     } else {

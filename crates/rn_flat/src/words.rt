@@ -1,5 +1,6 @@
 // What the words of a call ask for.
 
+use crate::asked_tasks::asked_task;
 use clap::error::ErrorKind;
 use clap::{Arg, ArgAction, ArgMatches, Command};
 use rn_files::{Map, STANDARD_INPUT};
@@ -9,7 +10,7 @@ use std::error::Error;
 use std::fmt;
 
 /// The word for standard output: that for standard input.
-const STANDARD_OUTPUT: &str = STANDARD_INPUT;
+pub(crate) const STANDARD_OUTPUT: &str = STANDARD_INPUT;
 
 /// The version that is answered. A program that is built without a proof says so behind it.
 const VERSION: &str = "1.0";
@@ -21,6 +22,12 @@ const ABOUT: &str =
 /// What is said below the options.
 const AFTER: &str =
     "A FILE of - is standard input. Status: 0 done; 1 the schema is refused, or differs from the file of --check; 2 these words can't be understood; 3 a file, the output or memory.";
+
+/// When messages may be in colours.
+static COLOURS: [&str; 3] = ["auto", "always", "never"];
+
+/// How messages may be written.
+static FORMATS: [&str; 2] = ["text", "json"];
 
 /// How a schema is spelled.
 #[derive(Clone, Copy, Debug, PartialEq, Eq)]
@@ -42,6 +49,10 @@ pub enum Product {
     List,
     /// The files and what they include or place by `external`, as a Graphviz text; nothing is lifted.
     Graph,
+    /// A line for each definition that the start doesn't reach.
+    Unused,
+    /// A line for each definition that the schema is made of, with the name that it has there.
+    Origins,
 }
 
 /// What is done with the files.
@@ -61,6 +72,19 @@ pub enum Task {
         /// The syntax of the schema that the file is to hold.
         syntax: Syntax,
     },
+    /// Faults are looked for in files that may be parts of a schema, and nothing is written.
+    Lint,
+}
+
+/// When messages are shown in colours.
+#[derive(Clone, Copy, Debug, PartialEq, Eq)]
+pub enum ColourChoice {
+    /// On a terminal that has colours.
+    Auto,
+    /// Always.
+    Always,
+    /// Never.
+    Never,
 }
 
 /// What the program is to do.
@@ -72,8 +96,14 @@ pub struct Job {
     pub root: Option<String>,
     /// Where URIs lie.
     pub maps: Vec<Map>,
+    /// The path of the file that standard input is read in place of, if one is given.
+    pub input: Option<String>,
     /// What is done with the files.
     pub task: Task,
+    /// Whether messages are objects of JSON.
+    pub is_json: bool,
+    /// When messages are shown in colours.
+    pub colour: ColourChoice,
 }
 
 /// What the words are.
@@ -117,8 +147,9 @@ impl From<AllocError> for WordsFault {
 }
 
 /// What the words behind the program's name ask for. No file is read. `Usage` where an option is unknown, lacks its
-/// value, is given twice or contradicts another, where no file is named, where a map is not `PREFIX=FOLDER`, where
-/// standard input would be read twice, or where a file for the compact syntax ends in `.rng`.
+/// value, is given twice or contradicts another, where no file is named or one has no name, where a map is not
+/// `PREFIX=FOLDER`, where standard input would be read twice, where it is named and not read, or where a file for the
+/// compact syntax ends in `.rng`.
 pub fn read_words(alloc: Global, words: &[String]) -> Result<Words, WordsFault> {
     match program(alloc)?.try_get_matches_from(words) {
         Ok(matches) => asked_words(alloc, &matches),
@@ -173,7 +204,54 @@ fn program<'a>(alloc: Global) -> Result<Command<'a>, AllocError> {
             "FOLDER",
             "Name the modules by their paths below FOLDER",
         ))?;
-    Ok(program)
+    checking_options(alloc, program)
+}
+
+/// The program with the options that look into schemas.
+fn checking_options<'a>(alloc: Global, program: Command<'a>) -> Result<Command<'a>, AllocError> {
+    let program = program
+        .arg(flag(
+            alloc,
+            "unused",
+            "Write where the definitions are that the start doesn't reach",
+        ))?
+        .arg(flag(
+            alloc,
+            "origins",
+            "Write where the definitions of each name of the schema are",
+        ))?
+        .arg(flag(
+            alloc,
+            "lint",
+            "Write nothing, and tell all faults of files that may be parts of a schema",
+        ))?
+        .arg(valued_option(
+            alloc,
+            "stdin-name",
+            "NAME",
+            "Read standard input in place of the file NAME",
+        ))?;
+    with_message_options(alloc, program)
+}
+
+/// The program with the options that say how messages are written.
+fn with_message_options<'a>(
+    alloc: Global,
+    program: Command<'a>,
+) -> Result<Command<'a>, AllocError> {
+    program
+        .arg(chosen_option(
+            alloc,
+            "color",
+            COLOURS.as_slice(),
+            "When messages are in colours",
+        ))?
+        .arg(chosen_option(
+            alloc,
+            "format",
+            FORMATS.as_slice(),
+            "How messages are written",
+        ))
 }
 
 /// The files, one or more.
@@ -192,6 +270,16 @@ fn valued_option<'a>(alloc: Global, name: &'a str, value: &'a str, help: &'a str
         .value_name(value)
         .action(ArgAction::Set)
         .help(help)
+}
+
+/// An option with one of these values, given once at most.
+fn chosen_option<'a>(
+    alloc: Global,
+    name: &'a str,
+    values: &'a [&'a str],
+    help: &'a str,
+) -> Arg<'a> {
+    valued_option(alloc, name, "WORD", help).value_parser(values)
 }
 
 /// An option without a value.
@@ -217,6 +305,10 @@ fn asked_words(alloc: Global, words: &ArgMatches<'_>) -> Result<Words, WordsFaul
     let maps = maps(alloc, words.get_strs("map").unwrap_or(&[]))?;
     let task = asked_task(alloc, words)?;
     let root = copy(alloc, words.get_str("root"))?;
+    let input = asked_input(alloc, words, files.as_slice())?;
+    if files.iter().any(|file| file.is_empty()) {
+        return usage(alloc, "a FILE needs a name");
+    }
     if is_named_twice(files.as_slice(), &task) {
         return usage(alloc, "standard input can't be read twice");
     }
@@ -224,8 +316,27 @@ fn asked_words(alloc: Global, words: &ArgMatches<'_>) -> Result<Words, WordsFaul
         files,
         root,
         maps,
+        input,
         task,
+        is_json: words.get_str("format") == Some("json"),
+        colour: colour_choice(words),
     }))
+}
+
+/// The path that is given for standard input, which is read then.
+fn asked_input(
+    alloc: Global,
+    words: &ArgMatches<'_>,
+    files: &[String],
+) -> Result<Option<String>, WordsFault> {
+    let input = words.get_str("stdin-name");
+    if input == Some("") {
+        return usage(alloc, "--stdin-name needs the name of a file");
+    }
+    if input.is_some() && !files.iter().any(|file| file.as_str() == STANDARD_INPUT) {
+        return usage(alloc, "--stdin-name needs - among the files");
+    }
+    Ok(copy(alloc, input)?)
 }
 
 /// Whether standard input is to be read more than once.
@@ -240,64 +351,12 @@ fn is_named_twice(files: &[String], task: &Task) -> bool {
     }
 }
 
-/// What is done. Of the products one at most may be asked for, and none with `--check`.
-fn asked_task(alloc: Global, words: &ArgMatches<'_>) -> Result<Task, WordsFault> {
-    let product = asked_product(alloc, words)?;
-    if product != Product::Schema(Syntax::Xml) && names_xml(words) {
-        return usage(
-            alloc,
-            "a file that ends in .rng holds the XML syntax, which --rng writes",
-        );
-    }
-    let output = copy(alloc, words.get_str("output"))?;
-    let Some(file) = copy(alloc, words.get_str("check"))? else {
-        return Ok(Task::Write {
-            product,
-            output: output.filter(|file| file.as_str() != STANDARD_OUTPUT),
-        });
-    };
-    if output.is_some() {
-        return contradiction(alloc, "check", "output");
-    }
-    match product {
-        Product::Schema(syntax) => Ok(Task::Check { file, syntax }),
-        Product::Bundle => contradiction(alloc, "check", "bundle"),
-        Product::List => contradiction(alloc, "check", "list"),
-        Product::Graph => contradiction(alloc, "check", "graph"),
-    }
-}
-
-/// Whether the file that is written or checked is named as one in the XML syntax.
-fn names_xml(words: &ArgMatches<'_>) -> bool {
-    is_xml_name(words.get_str("output")) || is_xml_name(words.get_str("check"))
-}
-
-/// Whether there is a name, and it ends as those of schemas in the XML syntax do.
-fn is_xml_name(name: Option<&str>) -> bool {
-    match name {
-        Some(name) => name.ends_with(".rng"),
-        None => false,
-    }
-}
-
-/// The one product that is asked for.
-fn asked_product(alloc: Global, words: &ArgMatches<'_>) -> Result<Product, WordsFault> {
-    let rng = words.get_flag("rng");
-    let bundle = words.get_flag("bundle");
-    let list = words.get_flag("list");
-    let graph = words.get_flag("graph");
-    match (bundle, list, graph) {
-        (false, false, false) if rng => Ok(Product::Schema(Syntax::Xml)),
-        (false, false, false) => Ok(Product::Schema(Syntax::Compact)),
-        (true, _, _) if rng => contradiction(alloc, "rng", "bundle"),
-        (_, true, _) if rng => contradiction(alloc, "rng", "list"),
-        (_, _, true) if rng => contradiction(alloc, "rng", "graph"),
-        (true, false, false) => Ok(Product::Bundle),
-        (false, true, false) => Ok(Product::List),
-        (false, false, true) => Ok(Product::Graph),
-        (true, true, _) => contradiction(alloc, "bundle", "list"),
-        (true, _, true) => contradiction(alloc, "bundle", "graph"),
-        (_, true, true) => contradiction(alloc, "list", "graph"),
+/// When messages are shown in colours.
+fn colour_choice(words: &ArgMatches<'_>) -> ColourChoice {
+    match words.get_str("color") {
+        Some("always") => ColourChoice::Always,
+        Some("never") => ColourChoice::Never,
+        _ => ColourChoice::Auto,
     }
 }
 
@@ -320,7 +379,7 @@ fn maps(alloc: Global, words: &[&str]) -> Result<Vec<Map>, WordsFault> {
 }
 
 /// A copy of a word that is given.
-fn copy(alloc: Global, word: Option<&str>) -> Result<Option<String>, AllocError> {
+pub(crate) fn copy(alloc: Global, word: Option<&str>) -> Result<Option<String>, AllocError> {
     match word {
         Some(word) => Ok(Some(String::from_str(alloc, word)?)),
         None => Ok(None),
@@ -328,7 +387,7 @@ fn copy(alloc: Global, word: Option<&str>) -> Result<Option<String>, AllocError>
 }
 
 /// Two options can't be given together.
-fn contradiction<T>(alloc: Global, one: &str, other: &str) -> Result<T, WordsFault> {
+pub(crate) fn contradiction<T>(alloc: Global, one: &str, other: &str) -> Result<T, WordsFault> {
     usage(
         alloc,
         format!(in alloc; "--{one} can't be given with --{other}")?.as_str(),
@@ -336,7 +395,7 @@ fn contradiction<T>(alloc: Global, one: &str, other: &str) -> Result<T, WordsFau
 }
 
 /// What is wrong with the words, and where to look.
-fn usage<T>(alloc: Global, wrong: &str) -> Result<T, WordsFault> {
+pub(crate) fn usage<T>(alloc: Global, wrong: &str) -> Result<T, WordsFault> {
     Err(WordsFault::Usage(format!(in alloc;
         "error: {wrong}\n\nFor more information, try '--help'.\n"
     )?))

@@ -120,13 +120,19 @@ element a | grammar { x:string - (a | b), parent c } => Pattern 0 <element a | g
 include 'x' { div { a = b } start |= c } d = e => Grammar 0 <include 'x' { div { a = b } start |= c } d = e>;0include(include 'x' { div { a = b } start |= c })<x>;0define(a = b)<a><b>Some(0)true;0ref(b)<b>;0start(start |= c)<start><c>Some(0)true;0ref(c)<c>;0define(d = e)<d><e>Nonetrue;0ref(e)<e>;
 grammar { start = grammar { a = parent b } } >> a [] => Grammar 0 <grammar { start = grammar { a = parent b } } >> a []>;0start(start = grammar { a = parent b })<start><grammar { a = parent b }>Nonetrue;0grammar(grammar { a = parent b })1< a = parent b >;1define(a = parent b)<a><parent b>Nonetrue;1parent(parent b)<b>;
 grammar { a = b }? => Pattern 0 <grammar { a = b }?>;0start(grammar { a = b }?)<><grammar { a = b }?>Nonefalse;0grammar(grammar { a = b })1< a = b >;1define(a = b)<a><b>Nonetrue;1ref(b)<b>;
-[ external 'x' ] a [ parent b ] a:b [] start = [ grammar {} ] a => Syntax { at: 57 }
+[ external 'x' ] a [ parent b ] a:b [] start = [ grammar {} ] a => Syntax { at: 57, wanted: None }
 xsd:a { grammar = 'b' parent = 'c' } - (xsd:a - a | 'b') | b => Pattern 0 <xsd:a { grammar = 'b' parent = 'c' } - (xsd:a - a | 'b') | b>;0start(xsd:a { grammar = 'b' parent = 'c' } - (xsd:a - a | 'b') | b)<><xsd:a { grammar = 'b' parent = 'c' } - (xsd:a - a | 'b') | b>Nonetrue;0-ref(a)<a>;0ref(b)<b>;
-a = parent => Syntax { at: 10 }
-a = (b => Syntax { at: 6 }
-a = b } => Syntax { at: 6 }
-include 'x' { include 'y' } => Syntax { at: 14 }
-start = a start => Syntax { at: 15 }"#;
+a = parent => Syntax { at: 10, wanted: Some(Name) }
+a = (b => Syntax { at: 6, wanted: Some(ClosingParenthesis) }
+a = b } => Syntax { at: 6, wanted: None }
+include 'x' { include 'y' } => Syntax { at: 14, wanted: None }
+start = a start => Syntax { at: 15, wanted: Some(Assignment) }
+start = | a => Syntax { at: 8, wanted: Some(Pattern) }
+element a ( => Syntax { at: 10, wanted: Some(Brace) }
+element = a => Syntax { at: 8, wanted: Some(NameClass) }
+include a => Syntax { at: 8, wanted: Some(Literal) }
+namespace a b => Syntax { at: 12, wanted: Some(Equals) }
+div { a = b => Syntax { at: 11, wanted: Some(ClosingBrace) }"#;
 
 #[test]
 fn texts_have_their_outlines(rt: HostRuntime) {

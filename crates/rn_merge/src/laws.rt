@@ -38,7 +38,7 @@ pub fn verdicts_refuse_first()
 /// Lists of calls of `add` and `join` that answered Ok and brought the same contributions, in any
 /// order, however joined and however often, leave one set. Whatever `merge` answers for what the
 /// one left and for what the other left is the same text, byte for byte, or the same refusal with
-/// all its fields, want of memory aside. In particular `merge` has one answer for a set.
+/// all its fields, out of memory aside. In particular `merge` has one answer for a set.
 pub fn one_answer()
     ensures set { (calls others : List Call) (s t : List Member)
         → IsLeftBy calls s → IsLeftBy others t → BringAlike calls others → s ≡ t }

@@ -76,7 +76,7 @@ pub fn read_bundles(alloc: Global, bundles: &[Vec<u8>]) -> Result<ModuleSet, Run
     Ok(union)
 }
 
-/// The union of two sets that are given up. Where the one is empty, the other stays what it is, and no text of it is
+/// The union of two sets, which it consumes. Where one is empty, the other is the answer, and no text of it is
 /// copied. `Full` and `Memory` as [`ModuleSet::join`] says them.
 fn united(mut held: ModuleSet, other: ModuleSet) -> Result<ModuleSet, AddFault>
     requires { IsSet other }

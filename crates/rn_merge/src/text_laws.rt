@@ -7,7 +7,7 @@ ghost use Rattle.rn_merge.specs.TextFaults.{HasPlace, IsGood};
 
 use crate::text_faults::Place;
 
-/// A module text has at most one fault with one place, want of memory aside, and none where it is
+/// A module text has at most one fault with one place, out of memory aside, and none where it is
 /// good. That it is not good and has no fault either is impossible.
 pub fn texts_are_good_or_have_one_place()
     ensures never_neither { (text : List ℕ)

@@ -11,7 +11,7 @@ use std::alloc::Global;
 
 /// The verdict of the set: its flat schema in the canonical text, or the first refusal that stands,
 /// or `OutputTooLarge` or `OutputTooDeep` where the text would be more than may be printed.
-/// `Memory` stands for want of memory alone.
+/// `Memory` is for out of memory alone.
 ///
 /// A text is read back as a module that is valid for exactly the documents of the set's
 /// definitions, combined in any pairs and any order (RELAX NG 2001, 4.17). No

@@ -278,7 +278,7 @@ fn files(alloc: Global, words: &ArgMatches<'_>) -> Result<Vec<String>, ProgramFa
     Ok(copies(alloc, files)?)
 }
 
-/// Copies of the words. Refused only for want of memory.
+/// Copies of the words. Refused only where memory runs out.
 pub fn copies(alloc: Global, words: &[&str]) -> Result<Vec<String>, AllocError>
     ensures { IfOk result
         (λ copies. map string_bytes copies.items ≡ map (λ word. word.now) words.now) }

@@ -3,7 +3,7 @@ ghost use Rattle.std.specs.Prelude.{◌<◌, ◌≤◌, ◌+◌, length};
 ghost use Rattle.rn_text.specs.inside.Reading.{GoesPast};
 
 use crate::file_parts::{OutlineMethod, PartKind};
-use crate::outline_fault::Stop;
+use crate::outline_fault::{Stop, Wanted};
 use crate::outline_reader::{Frame, Mode, Reader};
 use crate::signs::{Sign, Word, end, sign_at, span};
 use crate::skips::{annotation, inherit, left_brace, literal_at};
@@ -44,7 +44,7 @@ fn named_item(reader: &mut Reader, tokens: &[Token<'_>], at: usize) -> Result<us
             define(reader, tokens, at, method)?;
             Ok(at + 2)
         }
-        _ => Err(Stop::Stuck(at + 1)),
+        _ => Err(Stop::Lacking(at + 1, Wanted::Assignment)),
     }
 }
 
@@ -73,7 +73,7 @@ fn start(reader: &mut Reader, tokens: &[Token<'_>], at: usize) -> Result<usize, 
     ensures { GoesPast at (length tokens.now) result }
 {
     let Sign::Assign(method) = sign_at(tokens, at + 1) else {
-        return Err(Stop::Stuck(at + 1));
+        return Err(Stop::Lacking(at + 1, Wanted::Assignment));
     };
     let word = span(tokens, at, at + 1);
     let kind = PartKind::Start {

@@ -22,4 +22,4 @@ pub use file_parts::{
 };
 pub use grouped::Grouped;
 pub use outline::{MAX_OPEN, read_outline};
-pub use outline_fault::OutlineFault;
+pub use outline_fault::{OutlineFault, Wanted};

@@ -4,7 +4,7 @@ ghost use Rattle.rn_text.specs.inside.Reading.{GoesPast, MayGoPast, Passed};
 
 use crate::file_parts::{PartKind, Span};
 use crate::items::next_item;
-use crate::outline_fault::Stop;
+use crate::outline_fault::{Stop, Wanted};
 use crate::outline_reader::{Frame, Mode, Reader};
 use crate::signs::{Sign, Word, end, sign_at, span};
 use crate::skips::{
@@ -36,7 +36,7 @@ pub(crate) fn operand(reader: &mut Reader, tokens: &[Token<'_>], at: usize) -> R
         }
         Sign::Prefixed => datatype(reader, tokens, at + 1),
         Sign::Word(word) => keyword(reader, tokens, at, word),
-        _ => Err(Stop::Stuck(at)),
+        _ => Err(Stop::Lacking(at, Wanted::Pattern)),
     }
 }
 
@@ -67,7 +67,7 @@ fn keyword(reader: &mut Reader, tokens: &[Token<'_>], at: usize, word: Word) -> 
         Word::Parent => parent(reader, tokens, at),
         Word::External => external(reader, tokens, at),
         Word::Grammar => grammar(reader, tokens, at),
-        _ => Err(Stop::Stuck(at)),
+        _ => Err(Stop::Lacking(at, Wanted::Pattern)),
     }
 }
 

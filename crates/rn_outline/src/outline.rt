@@ -8,7 +8,7 @@ use crate::declarations::declarations;
 use crate::file_parts::{Outline, OutlineMethod, Part, PartKind, Shape, Span};
 use crate::items::item;
 use crate::operands::{behind_operand, operand};
-use crate::outline_fault::{OutlineFault, Stop};
+use crate::outline_fault::{OutlineFault, Stop, Wanted};
 use crate::outline_reader::{Frame, Mode, Reader};
 use crate::signs::{Sign, Word, begin, end, sign_at, span};
 use crate::skips::{annotation, follow, left_brace, word};
@@ -169,6 +169,16 @@ fn finish(reader: &mut Reader, end: usize) -> bool {
     reader.frames.is_empty() && (reader.mode == Mode::Item || reader.mode == Mode::Closed)
 }
 
+/// Why the file may not end where its tokens, of which there are so many, do.
+fn early_end(reader: &Reader, count: usize) -> Stop {
+    match (reader.mode, reader.top()) {
+        (Mode::Operand | Mode::Excepted, _) => Stop::Lacking(count, Wanted::Pattern),
+        (_, Some(Frame::Parens { .. })) => Stop::Lacking(count, Wanted::ClosingParenthesis),
+        (_, Some(Frame::Body | Frame::Whole) | None) => Stop::Stuck(count),
+        (_, Some(_)) => Stop::Lacking(count, Wanted::ClosingBrace),
+    }
+}
+
 /// Reads the body that begins with the token of this number, and says what it is.
 fn read_body(reader: &mut Reader, tokens: &[Token<'_>], at: usize) -> Result<Shape, Stop>
     requires { at ≤ length tokens.now }
@@ -246,7 +256,7 @@ fn read(alloc: Global, text: &str, tokens: &[Token<'_>]) -> Result<Outline, Stop
     let mut reader = Reader::new(alloc);
     let shape = read_body(&mut reader, tokens, at)?;
     if !finish(&mut reader, end(tokens, tokens.len())) {
-        return Err(Stop::Stuck(tokens.len()));
+        return Err(early_end(&reader, tokens.len()));
     }
     let Reader {
         parts,
@@ -290,6 +300,11 @@ pub fn read_outline(
         Ok(outline) => Ok(outline),
         Err(Stop::Stuck(at)) => Err(OutlineFault::Syntax {
             at: begin(tokens, at),
+            wanted: None,
+        }),
+        Err(Stop::Lacking(at, wanted)) => Err(OutlineFault::Syntax {
+            at: begin(tokens, at),
+            wanted: Some(wanted),
         }),
         Err(Stop::Memory) => Err(OutlineFault::Memory),
     }

@@ -4,6 +4,39 @@ use crate::outline::MAX_OPEN;
 use std::alloc::{AllocError, AllocFailed};
 use thiserror::Error;
 
+/// What could come at the place of a fault, where it is one of few things (compact syntax, section 2). What an annotation
+/// or a comment could be is left out.
+#[derive(Clone, Copy, Debug, PartialEq, Eq, Error)]
+pub enum Wanted {
+    /// The `{` of `list`, `mixed`, `grammar`, `div` and of the content behind a name class.
+    #[error("`{{`")]
+    Brace,
+    /// The `}` that closes what is open where the tokens end.
+    #[error("`}}`")]
+    ClosingBrace,
+    /// The `)` that closes what is open where the tokens end.
+    #[error("`)`")]
+    ClosingParenthesis,
+    /// The `=` of a declaration, a parameter or `inherit`.
+    #[error("`=`")]
+    Equals,
+    /// The sign behind the name of a definition, or behind `start`.
+    #[error("`=`, `|=` or `&=`")]
+    Assignment,
+    /// A literal.
+    #[error("a literal")]
+    Literal,
+    /// A name that is no keyword.
+    #[error("a name")]
+    Name,
+    /// A name class.
+    #[error("a name or `*`")]
+    NameClass,
+    /// A pattern.
+    #[error("a pattern")]
+    Pattern,
+}
+
 /// Why a text has no outline, with the place of it as a count of bytes from the start of the text.
 #[derive(Debug, Drop, PartialEq, Eq, Error)]
 pub enum OutlineFault {
@@ -18,6 +51,8 @@ pub enum OutlineFault {
     Syntax {
         /// How many bytes of the text stand before the place of the fault.
         at: usize,
+        /// What could come there, where it is one of few things.
+        wanted: Option<Wanted>,
     },
     /// A request for memory was refused.
     #[error("out of memory")]
@@ -35,6 +70,8 @@ impl From<AllocError> for OutlineFault {
 pub(crate) enum Stop {
     /// At the token of this number, or at the end.
     Stuck(usize),
+    /// There too, where this could come.
+    Lacking(usize, Wanted),
     Memory,
 }
 

@@ -4,7 +4,7 @@ ghost use Rattle.rn_text.specs.Reading.{Advanced};
 ghost use Rattle.rn_text.specs.inside.Reading.{GoesPast, MayGoPast, Passed};
 
 use crate::file_parts::{OutlineMethod, Span};
-use crate::outline_fault::Stop;
+use crate::outline_fault::{Stop, Wanted};
 use crate::signs::{Sign, Word, sign_at, span};
 use rn_text::{Kind, Token, literal};
 use std::alloc::Global;
@@ -97,6 +97,8 @@ pub(crate) fn name_class(tokens: &[Token<'_>], mut at: usize) -> Result<usize, S
                 depth -= 1;
             }
             Sign::LeftBrace if is_read && depth == 0 => return Ok(at + 1),
+            _ if !is_read => return Err(Stop::Lacking(at, Wanted::NameClass)),
+            _ if depth == 0 => return Err(Stop::Lacking(at, Wanted::Brace)),
             _ => return Err(Stop::Stuck(at)),
         }
     }
@@ -141,7 +143,7 @@ pub(crate) fn word(tokens: &[Token<'_>], at: usize) -> Result<usize, Stop>
 {
     match sign_at(tokens, at) {
         Sign::Ident | Sign::Word(_) => Ok(at + 1),
-        _ => Err(Stop::Stuck(at)),
+        _ => Err(Stop::Lacking(at, Wanted::Name)),
     }
 }
 
@@ -152,7 +154,7 @@ pub(crate) fn ident(tokens: &[Token<'_>], at: usize) -> Result<usize, Stop>
 {
     match sign_at(tokens, at) {
         Sign::Ident => Ok(at + 1),
-        _ => Err(Stop::Stuck(at)),
+        _ => Err(Stop::Lacking(at, Wanted::Name)),
     }
 }
 
@@ -164,9 +166,9 @@ pub(crate) fn plain_assign(tokens: &[Token<'_>], at: usize) -> Result<usize, Sto
     match sign_at(tokens, at) {
         Sign::Assign(method) => match method {
             OutlineMethod::Plain => Ok(at + 1),
-            _ => Err(Stop::Stuck(at)),
+            _ => Err(Stop::Lacking(at, Wanted::Equals)),
         },
-        _ => Err(Stop::Stuck(at)),
+        _ => Err(Stop::Lacking(at, Wanted::Equals)),
     }
 }
 
@@ -177,7 +179,7 @@ pub(crate) fn left_brace(tokens: &[Token<'_>], at: usize) -> Result<usize, Stop>
 {
     match sign_at(tokens, at) {
         Sign::LeftBrace => Ok(at + 1),
-        _ => Err(Stop::Stuck(at)),
+        _ => Err(Stop::Lacking(at, Wanted::Brace)),
     }
 }
 
@@ -188,7 +190,7 @@ fn segment(tokens: &[Token<'_>], at: usize) -> Result<usize, Stop>
 {
     match sign_at(tokens, at) {
         Sign::Segment => Ok(at + 1),
-        _ => Err(Stop::Stuck(at)),
+        _ => Err(Stop::Lacking(at, Wanted::Literal)),
     }
 }
 

@@ -1,6 +1,6 @@
 // What is answered where files in memory are asked for, as rows write them.
 use crate::comparing::{expect_text, same_for};
-use rn_files::{Asked, Map, MemoryFiles, Reading, ReadingFault, Sources, read_sources};
+use rn_files::{Asked, Map, MemoryFiles, Reading, ReadingFault, Sources, read_files, read_sources};
 use std::alloc::{AllocError, Global};
 use std::process::Abort;
 
@@ -11,6 +11,7 @@ struct Given {
     words: Vec<String>,
     root: Option<String>,
     maps: Vec<Map>,
+    input: Option<String>,
 }
 
 /// Takes in a line of a row: its kind, and the one or two words behind it.
@@ -29,6 +30,10 @@ fn take_line(
         "word" => Ok(given.words.push(String::from_str(alloc, first)?)?),
         "root" => {
             given.root = Some(String::from_str(alloc, first)?);
+            Ok(())
+        }
+        "input" => {
+            given.input = Some(String::from_str(alloc, first)?);
             Ok(())
         }
         _ => add_map(alloc, given, first, second),
@@ -50,6 +55,7 @@ fn given_of(alloc: Global, lines: &str) -> Result<Given, AllocError> {
         words: Vec::new(alloc),
         root: None,
         maps: Vec::new(alloc),
+        input: None,
     };
     for line in lines.split('\n') {
         let (kind, rest) = line.split_once('\t').unwrap_or((line, ""));
@@ -96,19 +102,49 @@ pub fn answer_line(
 /// What is answered for a row.
 fn answer_for_row(alloc: Global, lines: &str) -> Result<String, AllocError> {
     let given = given_of(alloc, lines)?;
-    let root = match &given.root {
-        Some(root) => Some(root.as_str()),
-        None => None,
-    };
-    let asked = Asked {
-        files: given.words.as_slice(),
-        root,
-        maps: given.maps.as_slice(),
-    };
-    answer_line(alloc, read_sources(alloc, &given.files, &asked))
+    answer_line(alloc, read_sources(alloc, &given.files, &asked_by(&given)))
 }
 
-/// Each row has its answer. A row is written in lines (a file with its text, a pipe, a link, a file that is swapped for another, a word, a root folder, a map), and what is wanted
+/// What a row asks for.
+fn asked_by(given: &Given) -> Asked<'_> {
+    Asked {
+        files: given.words.as_slice(),
+        root: given.root.as_ref().map(|root| root.as_str()),
+        maps: given.maps.as_slice(),
+        input: given.input.as_ref().map(|input| input.as_str()),
+    }
+}
+
+/// How the files of a row are told, and the loop that they are in, if they are in one.
+fn told_for_row(alloc: Global, lines: &str) -> Result<String, AllocError> {
+    let given = given_of(alloc, lines)?;
+    let linked = match read_files(alloc, &given.files, &asked_by(&given)) {
+        Ok(linked) => linked,
+        Err(ReadingFault::Faults(reading)) => return faults_line(alloc, &reading),
+        Err(ReadingFault::Memory) => return Err(AllocError),
+    };
+    let mut out = String::new(alloc);
+    for source in &linked.sources.files {
+        out.push_str(source.shown.as_str())?;
+        out.push_str(" ")?;
+    }
+    if let Some(fault) = &linked.fault {
+        let kind = &fault.kind;
+        write!(out, "{kind:?}")?;
+    }
+    Ok(out)
+}
+
+/// Of each row the files are told so.
+pub fn each_told(rt: &(impl Abort + AllocGlobal), rows: &[(&str, &str)]) {
+    for (lines, wanted) in rows {
+        let found = expect_text(rt, told_for_row(rt.alloc(), lines));
+        same_for(rt, lines, found.as_str(), wanted);
+    }
+}
+
+/// Each row has its answer. A row is written in lines (a file with its text, a pipe, a link, a file that is swapped for another, a word, a root folder, a map, the path of
+/// standard input), and what is wanted
 /// has the modules with their targets, and the roots; or the faults.
 pub fn each_answered(rt: &(impl Abort + AllocGlobal), rows: &[(&str, &str)]) {
     for (lines, wanted) in rows {
@@ -131,6 +167,7 @@ pub fn answer_for_a(alloc: Global, files: &MemoryFiles) -> Result<Sources, Readi
         files: words.as_slice(),
         root: None,
         maps: &[],
+        input: None,
     };
     read_sources(alloc, files, &asked)
 }

@@ -15,3 +15,5 @@ mod source_limits;
 mod source_reading;
 #[cfg(test)]
 mod uri_references;
+#[cfg(test)]
+mod xml_files;

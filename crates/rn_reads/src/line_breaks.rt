@@ -3,7 +3,7 @@ use crate::comparing::{holds, same_for};
 use rn_files::{Position, line_of, position};
 
 /// A text, the place of a byte, and its line, its column and the text of its line.
-static POSITIONS: [(&str, usize, usize, usize, &str); 15] = [
+static POSITIONS: [(&str, usize, usize, usize, &str); 19] = [
     ("", 0, 1, 1, ""),
     ("", 7, 1, 1, ""),
     ("ab", 0, 1, 1, "ab"),
@@ -19,6 +19,10 @@ static POSITIONS: [(&str, usize, usize, usize, &str); 15] = [
     ("\n\r\r\nx", 4, 4, 1, "x"),
     ("é€𝄞x", 9, 1, 4, "é€𝄞x"),
     ("\u{2028}\u{85}x", 5, 1, 3, "\u{2028}\u{85}x"),
+    ("\u{FEFF}ab", 0, 1, 1, "\u{FEFF}ab"),
+    ("\u{FEFF}ab", 4, 1, 2, "\u{FEFF}ab"),
+    ("\u{FEFF}a\nb", 5, 2, 1, "b"),
+    ("a\n\u{FEFF}b", 5, 2, 2, "\u{FEFF}b"),
 ];
 
 #[test]

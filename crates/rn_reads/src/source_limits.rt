@@ -109,3 +109,23 @@ fn texts_that_are_not_utf8_are_refused(rt: HostRuntime) {
     let wanted = "Text { file: 0, at: 5 } Encoding;";
     same_for(&rt, "not UTF-8", found.as_str(), wanted);
 }
+
+#[test]
+fn texts_in_utf16_are_told(rt: HostRuntime) {
+    let little = answer_for_bytes(rt.alloc(), b"\xFF\xFEs\x00");
+    let little = expect_text(&rt, little);
+    same_for(
+        &rt,
+        "little-endian",
+        little.as_str(),
+        "Text { file: 0, at: 0 } Utf16;",
+    );
+    let big = answer_for_bytes(rt.alloc(), b"\xFE\xFF\x00s");
+    let big = expect_text(&rt, big);
+    same_for(
+        &rt,
+        "big-endian",
+        big.as_str(),
+        "Text { file: 0, at: 0 } Utf16;",
+    );
+}

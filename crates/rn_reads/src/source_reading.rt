@@ -1,5 +1,5 @@
 // Files that are read with what they refer to: their names, their numbers and the order of both.
-use crate::asked_files::each_answered;
+use crate::asked_files::{each_answered, each_told};
 
 /// Names, which are counted from the deepest folder that holds all files, or from the root folder; and bytes that no name holds.
 static NAMES: [(&str, &str); 5] = [
@@ -62,7 +62,7 @@ fn files_are_in_the_order_of_words_and_references(rt: HostRuntime) {
 }
 
 /// Standard input, and a file of its name.
-static STANDARD_INPUT: [(&str, &str); 2] = [
+static STANDARD_INPUT: [(&str, &str); 6] = [
     (
         "file\t-\tinclude 'a.rnc'\nfile\t/w/a.rnc\t\nword\t-",
         "- [1] a.rnc [] roots [0]",
@@ -71,7 +71,52 @@ static STANDARD_INPUT: [(&str, &str); 2] = [
         "file\t-\t\nfile\t/w/-\tinclude '-'\nword\t-\nword\t./-\nroot\t/",
         "Text { file: 1, at: 8 } Loop([1]);",
     ),
+    (
+        "file\t-\tinclude 'b.rnc'\nfile\t/w/x/b.rnc\t\nfile\t/w/x/a.rnc\t;\nword\t-\ninput\tx/a.rnc",
+        "a.rnc [1] b.rnc [] roots [0]",
+    ),
+    (
+        "file\t-\tx = text\nfile\t/w/x/b.rnc\tinclude 'new.rnc'\nword\tx/b.rnc\nword\t-\ninput\tx/../x/new.rnc\nroot\t/w",
+        "Text { file: 0, at: 8 } Target { path: \"x/new.rnc\", fault: Missing };",
+    ),
+    (
+        "file\t-\t\nfile\t/w/a.rnc\t\nword\ta.rnc\nword\t-\ninput\t./a.rnc",
+        "Word(1) Twice;",
+    ),
+    (
+        "file\t-\tinclude 'l.rnc'\nfile\t/w/a.rnc\t\nlink\t/w/l.rnc\t/w/a.rnc\nword\t-\ninput\ta.rnc",
+        "Text { file: 0, at: 8 } Loop([0]);",
+    ),
 ];
+
+/// How files are told: by paths from the current folder, or from the topmost one where the file is so that refers to them.
+static TOLD: [(&str, &str); 5] = [
+    (
+        "file\t/w/x/a.rnc\tinclude 'b.rnc' include '../c.rnc'\nfile\t/w/x/b.rnc\t\nfile\t/w/c.rnc\tinclude '../o/d.rnc'\nfile\t/o/d.rnc\t\nword\tx/a.rnc",
+        "x/a.rnc x/b.rnc c.rnc /o/d.rnc ",
+    ),
+    (
+        "file\t/w/x/a.rnc\tinclude 'b.rnc'\nfile\t/w/x/b.rnc\t\nword\t/w/x/a.rnc",
+        "/w/x/a.rnc /w/x/b.rnc ",
+    ),
+    (
+        "file\t-\tinclude 'b.rnc'\nfile\t/w/x/a.rnc\t\nfile\t/w/x/b.rnc\tinclude 'a.rnc'\nword\t-\ninput\t./x/a.rnc",
+        "./x/a.rnc x/b.rnc Loop([0, 1])",
+    ),
+    (
+        "file\t/w/a.rnc\tinclude 'http://h/b.rnc'\nfile\t/w/m/b.rnc\t\nword\ta.rnc\nmap\thttp://h\t/w/m",
+        "a.rnc m/b.rnc ",
+    ),
+    (
+        "file\t/w/a.rnc\tinclude 'a.rnc'\nword\ta.rnc",
+        "a.rnc Loop([0])",
+    ),
+];
+
+#[test]
+fn files_are_told_from_the_current_folder(rt: HostRuntime) {
+    each_told(&rt, &TOLD);
+}
 
 #[test]
 fn standard_input_is_read(rt: HostRuntime) {

@@ -1,1 +1,2 @@
 mod PrintedTexts
+mod JsonTexts

@@ -1,4 +1,6 @@
 pub mod Limits
 pub mod PrintedCharacters
 pub mod Messages
+pub mod JsonMessages
+pub mod MessageTexts
 pub mod inside

@@ -1,6 +1,10 @@
 -- Messages: where they are told, and their lines.
 use Rattle.std.specs.Prelude.{◌≡◌, ℕ, ◌≤◌, List, [], ◌∷◌, ◌++◌, Option, Some, None, codes, decimal, nat_lt, slice_get, string_bytes, vec_len, if◌then◌else◌}
+use Rattle.std.specs.Borrow.{Bor}
 use Rattle.rn_files.specs.TextLines.{IsPosition}
+use Rattle.rn_files.specs.declared.sources.Written.{Written}
+use Rattle.rn_translate.specs.Places.{origin_of}
+use Rattle.rn_translate.specs.declared.translated.Places.{Places}
 use Rattle.rn_tell.specs.Limits.{max_told}
 use Rattle.rn_tell.specs.PrintedCharacters.{head, printed}
 use Rattle.rn_tell.specs.declared.report.Colours.{Colours}
@@ -15,9 +19,32 @@ abbrev pub IsPlaceIn : (path text : List ℕ) → ℕ → List ℕ → Type 0
 IsPlaceIn path text at place = (line column : ℕ) × IsPosition text at line column
     × (place ≡ path ++ (codes ":" ++ (decimal line ++ (codes ":" ++ decimal column))))
 
+-- what is written where a text was made of it, if it was; else the text
+abbrev pub written_for : List ℕ → Option (Bor Written) → List ℕ
+written_for text None = text
+written_for text (Some w) = string_bytes w.now.text
+
+-- the byte of a document for which a byte of the text stands; where there is no text, it is a byte of the document
+abbrev pub byte_in : ℕ → Option Places → ℕ
+byte_in at None = at
+byte_in at (Some places) = origin_of places.items.items at
+
+-- the byte of what is written for which a byte of the text stands
+abbrev pub byte_for : ℕ → Option (Bor Written) → ℕ
+byte_for at None = at
+byte_for at (Some w) = byte_in at w.now.places
+
+-- what is written in a file
+abbrev pub written_text : Page → List ℕ
+written_text page = written_for page.text.now page.written
+
+-- the byte of it for which a byte of the text stands
+abbrev pub written_byte : Page → ℕ → ℕ
+written_byte page at = byte_for at page.written
+
 -- the place of a byte of a file, if there is one; else the name of the program
 abbrev pub IsPlaceAt : Option Page → ℕ → List ℕ → Type 0
-IsPlaceAt (Some page) at place = IsPlaceIn page.path.now page.text.now at place
+IsPlaceAt (Some page) at place = IsPlaceIn page.path.now (written_text page) (written_byte page at) place
 IsPlaceAt None at place = place ≡ codes "rnc-flat"
 
 -- the place of a message among these files

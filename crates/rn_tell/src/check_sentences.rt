@@ -1,15 +1,12 @@
 // The fault of a text as a sentence.
-use crate::report::shown_name;
+use crate::message_kinds::MessageKind;
+use crate::token_sentences::{lexical_sentence, prefix_sentence, unexpected_sign};
 use rn_merge::Place;
 use rn_outline::{Grouped, MAX_OPEN};
-use rn_text::{Token, tokens};
 use std::alloc::{AllocError, Global};
 
 /// The sentence on bytes that are no UTF-8.
 pub const ENCODING: &str = "the file is not UTF-8 from here on";
-
-/// The sentence on what is no token, white space or comment.
-pub const LEXICAL: &str = "nothing that the compact syntax has begins like this";
 
 /// The sentence on a request for memory that was refused.
 pub const MEMORY: &str = "out of memory";
@@ -44,15 +41,28 @@ pub fn is_of_meaning(place: &Place) -> bool {
     )
 }
 
+/// What a message on the fault of a text is about.
+pub fn check_kind(place: &Place) -> MessageKind {
+    match place {
+        Place::Syntax { .. } => MessageKind::Syntax,
+        Place::Deep { .. } => MessageKind::Limit,
+        Place::Encoding { .. } => MessageKind::Encoding,
+        Place::Lexical { .. } => MessageKind::Lexical,
+        Place::Prefix { .. } => MessageKind::Prefix,
+        Place::Builtin { .. } | Place::ContextValue { .. } => MessageKind::Datatype,
+        Place::Except { .. } => MessageKind::Except,
+        Place::Memory => MessageKind::Memory,
+    }
+}
+
 /// The sentence on the fault of a text.
 pub fn check_sentence(alloc: Global, text: &str, place: &Place) -> Result<String, AllocError> {
     let sentence = match place {
-        Place::Syntax { at } => return unexpected_token(alloc, text, *at),
+        Place::Syntax { at } => return unexpected_sign(alloc, text, *at),
+        Place::Prefix { at } => return prefix_sentence(alloc, text, *at),
         Place::Deep { .. } => return deep_sentence(alloc),
         Place::Encoding { .. } => ENCODING,
-        Place::Lexical { .. } => LEXICAL,
-        Place::Prefix { .. } =>
-            "this prefix is not declared, is declared twice, or may not be bound to this; or this is a second default namespace",
+        Place::Lexical { at } => lexical_sentence(text, *at),
         Place::Builtin { .. } =>
             "without a datatype library there are only `string` and `token`, without parameters",
         Place::ContextValue { .. } =>
@@ -61,26 +71,4 @@ pub fn check_sentence(alloc: Global, text: &str, place: &Place) -> Result<String
         Place::Memory => MEMORY,
     };
     String::from_str(alloc, sentence)
-}
-
-/// The sentence on the token that can't stand where it is, or on the end of the text.
-pub fn unexpected_token(alloc: Global, text: &str, at: usize) -> Result<String, AllocError> {
-    let Ok(tokens) = tokens(alloc, text.as_bytes()) else {
-        return String::from_str(alloc, "this can't stand here");
-    };
-    match token_at(tokens.as_slice(), at) {
-        Some(token) => {
-            let token = shown_name(alloc, token)?;
-            format!(in alloc; "`{token}` can't stand here")
-        }
-        None => String::from_str(alloc, "the schema ends too early"),
-    }
-}
-
-/// The token that begins at a byte.
-fn token_at<'a>(tokens: &[Token<'a>], at: usize) -> Option<&'a str> {
-    tokens
-        .iter()
-        .find(|token| token.start == at)
-        .map(|token| token.text)
 }

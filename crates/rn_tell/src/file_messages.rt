@@ -3,10 +3,10 @@
 ghost use Rattle.std.specs.Prelude.{IfOk};
 ghost use Rattle.rn_tell.specs.Messages.{IsFew};
 
-use crate::check_sentences::{check_sentence, fault_byte, is_of_meaning};
+use crate::check_sentences::{check_kind, check_sentence, fault_byte, is_of_meaning};
 use crate::fault_messages::{lift_message, lift_spot, reading_message, reading_spot};
 use crate::report::{Message, Messages, Page, Spot, attempt_pages, source_pages, text_of_page};
-use rn_files::{Reading, SourceFault, SourceFile};
+use rn_files::{Asked, Reading, SourceFault, SourceFile};
 use rn_lift::LiftedModule;
 use rn_merge::{Place, check};
 use rn_plan::LiftFault;
@@ -17,16 +17,23 @@ use std::collections::BTreeSet;
 #[derive(Drop)]
 enum FoundFault<'f> {
     Reading(&'f SourceFault),
-    Lift(&'f LiftFault),
+    /// A fault of lifting these files.
+    Lift {
+        files: &'f [SourceFile],
+        fault: &'f LiftFault,
+    },
     /// A fault of what the text of a file means: of its prefixes, datatypes and values.
-    Meaning { file: usize, place: Place },
+    Meaning {
+        file: usize,
+        place: Place,
+    },
 }
 
 /// Where a fault is told.
 fn spot_of(fault: &FoundFault<'_>) -> Option<Spot> {
     match fault {
         FoundFault::Reading(fault) => reading_spot(fault.place),
-        FoundFault::Lift(fault) => lift_spot(fault),
+        FoundFault::Lift { fault, .. } => lift_spot(fault),
         FoundFault::Meaning { file, place } => Some(Spot {
             file: *file,
             at: fault_byte(place),
@@ -34,10 +41,10 @@ fn spot_of(fault: &FoundFault<'_>) -> Option<Spot> {
     }
 }
 
-/// What is told of reading that failed: its faults, and those of what the texts mean.
+/// What is told of reading what is asked for, where that failed: its faults, and those of what the texts mean.
 pub fn reading_messages(
     alloc: Global,
-    words: &[String],
+    asked: &Asked<'_>,
     reading: &Reading,
 ) -> Result<Messages, AllocError>
     ensures { IfOk result IsFew }
@@ -48,7 +55,7 @@ pub fn reading_messages(
         faults.push(FoundFault::Reading(fault))?;
     }
     gather_meanings(alloc, pages.as_slice(), &mut faults)?;
-    messages_in_order(alloc, words, pages.as_slice(), faults.as_slice())
+    messages_in_order(alloc, asked, pages.as_slice(), faults.as_slice())
 }
 
 /// What is told of lifting that failed: its fault, and those of what the texts mean.
@@ -60,9 +67,15 @@ pub fn lift_messages(
     ensures { IfOk result IsFew }
 {
     let pages = source_pages(alloc, files)?;
-    let mut faults = vec![in alloc; FoundFault::Lift(fault)]?;
+    let mut faults = vec![in alloc; FoundFault::Lift { files, fault }]?;
     gather_meanings(alloc, pages.as_slice(), &mut faults)?;
-    messages_in_order(alloc, &[], pages.as_slice(), faults.as_slice())
+    let asked = Asked {
+        files: &[],
+        root: None,
+        maps: &[],
+        input: None,
+    };
+    messages_in_order(alloc, &asked, pages.as_slice(), faults.as_slice())
 }
 
 /// Adds the faults of what the texts mean.
@@ -93,7 +106,7 @@ fn fault_of(alloc: Global, text: &str) -> Result<Option<Place>, AllocError> {
 /// Messages of the first faults in order.
 fn messages_in_order(
     alloc: Global,
-    words: &[String],
+    asked: &Asked<'_>,
     pages: &[Page<'_>],
     faults: &[FoundFault<'_>],
 ) -> Result<Messages, AllocError>
@@ -102,7 +115,7 @@ fn messages_in_order(
     let mut told = Messages::new(alloc);
     for number in telling_order(alloc, pages, faults)? {
         if let Some(fault) = faults.get(number) {
-            tell_fault(alloc, &mut told, words, pages, fault)?;
+            tell_fault(alloc, &mut told, asked, pages, fault)?;
         }
     }
     Ok(told)
@@ -112,7 +125,7 @@ fn messages_in_order(
 fn tell_fault(
     alloc: Global,
     told: &mut Messages,
-    words: &[String],
+    asked: &Asked<'_>,
     pages: &[Page<'_>],
     fault: &FoundFault<'_>,
 ) -> Result<(), AllocError>
@@ -122,7 +135,7 @@ fn tell_fault(
     if told.count_if_full() {
         return Ok(());
     }
-    told.messages.push(message(alloc, words, pages, fault)?)?;
+    told.messages.push(message(alloc, asked, pages, fault)?)?;
     Ok(())
 }
 
@@ -164,17 +177,17 @@ fn ranks(alloc: Global, pages: &[Page<'_>]) -> Result<Vec<usize>, AllocError> {
 /// The message of a fault.
 fn message(
     alloc: Global,
-    words: &[String],
+    asked: &Asked<'_>,
     pages: &[Page<'_>],
     fault: &FoundFault<'_>,
 ) -> Result<Message, AllocError> {
     match fault {
-        FoundFault::Reading(fault) => reading_message(alloc, words, pages, fault),
-        FoundFault::Lift(fault) => lift_message(alloc, fault),
-        FoundFault::Meaning { file, place } => Ok(Message {
-            spot: spot_of(fault),
-            sentence: check_sentence(alloc, text_of_page(pages, *file), place)?,
-        }),
+        FoundFault::Reading(fault) => reading_message(alloc, asked, pages, fault),
+        FoundFault::Lift { files, fault } => lift_message(alloc, files, fault),
+        FoundFault::Meaning { file, place } => {
+            let sentence = check_sentence(alloc, text_of_page(pages, *file), place)?;
+            Ok(Message::new(alloc, check_kind(place), spot_of(fault), sentence))
+        }
     }
 }
 
@@ -212,6 +225,7 @@ fn tell_text(
     }
     let spot = origin.map(|(file, at)| Spot { file, at });
     let sentence = check_sentence(alloc, module.text.as_str(), place)?;
-    told.messages.push(Message { spot, sentence })?;
+    told.messages
+        .push(Message::new(alloc, check_kind(place), spot, sentence))?;
     Ok(())
 }

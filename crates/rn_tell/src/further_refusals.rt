@@ -35,6 +35,11 @@ pub struct FurtherRefusal<'v> {
     pub site: Option<Site>,
 }
 
+/// Whether a refusal is that a start or a definition is lacking.
+fn is_lack(kind: RefusalKind) -> bool {
+    matches!(kind, RefusalKind::NoStart | RefusalKind::Undefined)
+}
+
 /// Whether two refusals are one, wherever they are told.
 fn is_same(one: &FurtherRefusal<'_>, other: &FurtherRefusal<'_>) -> bool {
     one.kind == other.kind && one.module == other.module && one.key == other.key
@@ -67,6 +72,15 @@ fn found_of(refusal: &Refusal) -> Option<FurtherRefusal<'_>> {
     }
 }
 
+/// Whether the whole schema is looked at, or parts of one, which may lack a start and definitions.
+#[derive(Clone, Copy, Debug, PartialEq, Eq)]
+pub enum Extent {
+    /// All of a schema.
+    Whole,
+    /// Parts of a schema: neither the lack of a start nor a name that nothing defines is a fault.
+    Parts,
+}
+
 /// The refusal and those that would be answered after it, each once and in order; nothing for a refusal of another
 /// kind, or one that is not found.
 pub fn refusals_from<'v>(
@@ -74,6 +88,7 @@ pub fn refusals_from<'v>(
     sites: &'v Sites<'_>,
     defined: &[Defined<'v>],
     refusal: &Refusal,
+    extent: Extent,
 ) -> Result<Vec<FurtherRefusal<'v>>, AllocError> {
     let mut found = Vec::new(alloc);
     let Some(first) = found_of(refusal) else {
@@ -84,7 +99,7 @@ pub fn refusals_from<'v>(
     push_undefined(alloc, sites, defined, &mut found)?;
     found.sort()?;
     found.dedup_by(|one, before| is_same(one, before));
-    found.retain(|one| *one >= first);
+    found.retain(|one| *one >= first && (extent == Extent::Whole || !is_lack(one.kind)));
     if !found.first().is_some_and(|one| is_same(one, &first)) {
         found.clear();
     }
@@ -217,7 +232,7 @@ fn is_plain_twice(sites: &Sites<'_>, group: &[Defined<'_>]) -> bool {
 }
 
 /// Adds the names that are referred to and not defined.
-fn push_undefined<'v>(
+pub fn push_undefined<'v>(
     alloc: Global,
     sites: &'v Sites<'_>,
     defined: &[Defined<'v>],

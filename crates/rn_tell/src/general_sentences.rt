@@ -1,5 +1,6 @@
 // The sentences on refusals that are about all files together.
 use crate::check_sentences::{MEMORY, limit_sentence};
+use crate::message_kinds::MessageKind;
 use rn_assemble::{INSTANCE_LIMIT, Refusal};
 use rn_modset::MAX_TEXT;
 use rn_outline::MAX_OPEN;
@@ -19,6 +20,16 @@ pub fn general_sentence(alloc: Global, refusal: &Refusal) -> Result<String, Allo
         Refusal::OutputTooDeep => deep_output_sentence(alloc),
         Refusal::Memory => String::from_str(alloc, MEMORY),
         _ => format!(in alloc; "{refusal}"),
+    }
+}
+
+/// What a message on a refusal that has no place is about.
+pub fn general_kind(refusal: &Refusal) -> MessageKind {
+    match refusal {
+        Refusal::NoStart => MessageKind::Start,
+        Refusal::Instances | Refusal::OutputTooLarge | Refusal::OutputTooDeep => MessageKind::Limit,
+        Refusal::Memory => MessageKind::Memory,
+        _ => MessageKind::Internal,
     }
 }
 

@@ -5,21 +5,20 @@ ghost use Rattle.rn_tell.specs.Messages.{AreLines, IsFew, IsMessagePlace, IsPlac
 ghost use Rattle.rn_tell.specs.inside.Messages.{AddsMessage, one_more};
 ghost use Rattle.rn_tell.specs.PrintedCharacters.{colour, head, is_hidden, painted, printable, printed, word};
 
-use rn_files::{Attempt, SourceFile, line_of, position};
+use crate::message_kinds::MessageKind;
+use crate::shown_lines::push_source;
+use rn_files::{Attempt, SourceFile, Written, position};
 use std::alloc::{AllocError, Global};
 use unicode::properties::GeneralCategory;
 
 /// The most messages that are told together; faults beyond them are counted.
 pub const MAX_TOLD: usize = 20;
 
-/// The most characters of a line that are shown.
-pub const SHOWN: usize = 160;
-
 /// The most characters of a name or a token that are shown.
 const SHOWN_NAME: usize = 80;
 
-/// How many characters before a place are shown of a longer line.
-const BEFORE: usize = 80;
+/// The most characters of a path or a URI that are shown where no file was found.
+const SHOWN_PLACE: usize = 400;
 
 /// How grave a message is.
 #[derive(Clone, Copy, Debug, PartialEq, Eq)]
@@ -42,10 +41,31 @@ pub struct Spot {
 /// A sentence about a place, or about all files.
 #[derive(Debug, Drop)]
 pub struct Message {
+    /// What it is about.
+    pub kind: MessageKind,
     /// The place; `None` where it is about all files.
     pub spot: Option<Spot>,
     /// What is wrong there, without a stop at its end.
     pub sentence: String,
+    /// Further places that the sentence names, in its order.
+    pub others: Vec<Spot>,
+}
+
+impl Message {
+    /// A message that names no further place. It takes no memory.
+    pub fn new(alloc: Global, kind: MessageKind, spot: Option<Spot>, sentence: String) -> Message
+        ensures spot { result.spot ≡ spot }
+        ensures sentence { result.sentence ≡ sentence }
+        ensures kind { result.kind ≡ kind }
+        ensures others { vec_len result.others ≡ 0 }
+    {
+        Message {
+            kind,
+            spot,
+            sentence,
+            others: Vec::new(alloc),
+        }
+    }
 }
 
 /// The messages that are told, and how many faults are not told.
@@ -100,8 +120,59 @@ pub struct Page<'a> {
     pub name: &'a str,
     /// The path of the file, as it is told to people.
     pub path: &'a str,
-    /// The text of the file, or a front of the text.
+    /// The text of the file, or a front of the text; of a file in the XML syntax the text that was made of it.
     pub text: &'a str,
+    /// What is written in the file, if it is in the XML syntax.
+    pub written: Option<&'a Written>,
+}
+
+impl<'a> Page<'a> {
+    ghost use Rattle.rn_tell.specs.Messages.{written_byte, written_text};
+
+    /// A source as messages show it.
+    fn of_source(file: &'a SourceFile) -> Page<'a> {
+        Page {
+            name: file.name.as_str(),
+            path: file.shown.as_str(),
+            text: file.text.as_str(),
+            written: file.written.as_ref(),
+        }
+    }
+
+    /// A file as messages show it, as far as it was read.
+    fn of_attempt(file: &'a Attempt) -> Page<'a> {
+        Page {
+            name: file.name.as_str(),
+            path: file.shown.as_str(),
+            text: file.text.as_str(),
+            written: file.written.as_ref(),
+        }
+    }
+
+    /// Whether the file is in the XML syntax.
+    pub(crate) fn is_xml(&self) -> bool {
+        self.written.is_some()
+    }
+
+    /// What is written in the file, or a front of it.
+    pub(crate) fn written_text(&self) -> &'a str
+        ensures { result.now ≡ written_text self.now }
+    {
+        match self.written {
+            Some(written) => written.text.as_str(),
+            None => self.text,
+        }
+    }
+
+    /// The byte of what is written for which a byte of the text stands.
+    pub(crate) fn written_byte(&self, at: usize) -> usize
+        ensures { result ≡ written_byte self.now at }
+    {
+        match self.written {
+            Some(written) => written.origin(at),
+            None => at,
+        }
+    }
 }
 
 /// The text of the page with this number; nothing where there is none.
@@ -112,15 +183,16 @@ pub(crate) fn text_of_page<'a>(pages: &[Page<'a>], number: usize) -> &'a str {
     }
 }
 
+/// Whether the page with this number is of a file in the XML syntax.
+pub(crate) fn is_xml_page(pages: &[Page<'_>], number: usize) -> bool {
+    pages.get(number).is_some_and(|page| page.is_xml())
+}
+
 /// The sources as messages show them. Refused only for want of memory.
 pub fn source_pages(alloc: Global, files: &[SourceFile]) -> Result<Vec<Page<'_>>, AllocError> {
     let mut pages = Vec::new(alloc);
     for file in files {
-        pages.push(Page {
-            name: file.name.as_str(),
-            path: file.shown.as_str(),
-            text: file.text.as_str(),
-        })?;
+        pages.push(Page::of_source(file))?;
     }
     Ok(pages)
 }
@@ -129,11 +201,7 @@ pub fn source_pages(alloc: Global, files: &[SourceFile]) -> Result<Vec<Page<'_>>
 pub fn attempt_pages(alloc: Global, files: &[Attempt]) -> Result<Vec<Page<'_>>, AllocError> {
     let mut pages = Vec::new(alloc);
     for file in files {
-        pages.push(Page {
-            name: file.name.as_str(),
-            path: file.shown.as_str(),
-            text: file.text.as_str(),
-        })?;
+        pages.push(Page::of_attempt(file))?;
     }
     Ok(pages)
 }
@@ -150,7 +218,7 @@ pub enum Colours {
 /// What is told, as lines: for each message `FILE:LINE:COLUMN: error: SENTENCE`, the line of the file, and a caret
 /// below the place; then a note that says how many faults are not told. A character that would control a terminal, turn
 /// the direction of a text, part lines or not be seen is shown as `?` (Unicode's general categories Cc, Cf, Zl and Zp,
-/// but for a tab). Of a line of more than [`SHOWN`] characters a part is shown.
+/// but for a tab). Of a line of more than [`SHOWN`](crate::SHOWN) characters a part is shown.
 pub fn message_lines(
     alloc: Global,
     pages: &[Page<'_>],
@@ -197,7 +265,8 @@ fn source_text(
     let mut lines = String::new(alloc);
     if let Some(spot) = spot {
         if let Some(page) = pages.get(spot.file) {
-            push_source(&mut lines, page.text, spot.at, colours)?;
+            let at = page.written_byte(spot.at);
+            push_source(&mut lines, page.written_text(), at, colours)?;
         }
     }
     Ok(lines)
@@ -236,7 +305,10 @@ fn spot_text(alloc: Global, pages: &[Page<'_>], spot: Spot) -> Result<String, Al
         (string_bytes place)) }
 {
     match pages.get(spot.file) {
-        Some(page) => page_place(alloc, page.path, page.text, spot.at),
+        Some(page) => {
+            let at = page.written_byte(spot.at);
+            page_place(alloc, page.path, page.written_text(), at)
+        }
         None => String::from_str(alloc, "rnc-flat"),
     }
 }
@@ -289,7 +361,7 @@ fn colour(grade: Grade) -> &'static str
 }
 
 /// What changes the colour, where there are colours.
-fn paint(colours: Colours, sign: &'static str) -> &'static str
+pub(crate) fn paint(colours: Colours, sign: &'static str) -> &'static str
     ensures { result.now ≡ painted colours sign.now }
 {
     match colours {
@@ -298,65 +370,20 @@ fn paint(colours: Colours, sign: &'static str) -> &'static str
     }
 }
 
-/// The line of the text in which the byte stands, and a caret below the place.
-fn push_source(
-    lines: &mut String,
-    text: &str,
-    at: usize,
-    colours: Colours,
-) -> Result<(), AllocError> {
-    let line = line_of(text, at);
-    if line.is_empty() {
-        return Ok(());
-    }
-    let column = position(text, at).column;
-    let skipped = skipped_front(line, column);
-    lines.push_str("    ")?;
-    push_part(lines, line, skipped)?;
-    lines.push_str("\n    ")?;
-    push_indent(lines, line, skipped, column)?;
-    lines.push_str(paint(colours, "\u{1B}[1;32m"))?;
-    lines.push_str("^")?;
-    lines.push_str(paint(colours, "\u{1B}[0m"))?;
-    lines.push_str("\n")
-}
-
-/// How many characters at the front of a line are not shown where the place is in this column, which counts from 1:
-/// none where the whole line is shown.
-pub fn skipped_front(line: &str, column: usize) -> usize {
-    if line.chars().count() > SHOWN {
-        column.saturating_sub(1).saturating_sub(BEFORE)
-    } else {
-        0
-    }
-}
-
-/// The part of the line that is shown.
-fn push_part(lines: &mut String, line: &str, skipped: usize) -> Result<(), AllocError> {
-    for character in line.chars().skip(skipped).take(SHOWN) {
-        lines.push(printable_character(character))?;
-    }
-    Ok(())
-}
-
-/// White space as wide as what is shown before the column.
-fn push_indent(
-    lines: &mut String,
-    line: &str,
-    skipped: usize,
-    column: usize,
-) -> Result<(), AllocError> {
-    let before = column.saturating_sub(1).saturating_sub(skipped);
-    for character in line.chars().skip(skipped).take(before) {
-        lines.push(if character == '\t' { '\t' } else { ' ' })?;
-    }
-    Ok(())
-}
-
 /// A name or a token as a message shows it: of a longer one the first [`SHOWN_NAME`] characters, and then two dots.
 pub(crate) fn shown_name(alloc: Global, name: &str) -> Result<String, AllocError> {
-    let mut shown = format!(in alloc; "{name:.SHOWN_NAME$}")?;
-    if shown.len() < name.len() {
+    shown_front(alloc, name, SHOWN_NAME)
+}
+
+/// A path or a URI as a message shows it: of a longer one the first [`SHOWN_PLACE`] characters, and then two dots.
+pub(crate) fn shown_place(alloc: Global, place: &str) -> Result<String, AllocError> {
+    shown_front(alloc, place, SHOWN_PLACE)
+}
+
+/// So many characters of a text, and then two dots where it has more.
+fn shown_front(alloc: Global, text: &str, most: usize) -> Result<String, AllocError> {
+    let mut shown = format!(in alloc; "{text:.most$}")?;
+    if shown.len() < text.len() {
         shown.push_str("..")?;
     }
     Ok(shown)
@@ -388,7 +415,7 @@ fn is_hidden(category: GeneralCategory) -> bool
 }
 
 /// The character, or `?` where it would do more than be seen; a tab stays.
-fn printable_character(character: char) -> char
+pub(crate) fn printable_character(character: char) -> char
     ensures { result ≡ printable character }
 {
     if is_hidden(GeneralCategory::for_char(character)) && character != '\t' {

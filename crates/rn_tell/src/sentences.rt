@@ -8,11 +8,13 @@ use crate::file_messages::text_messages;
 use crate::findings::{
     Finding, Telling, brought_definitions_of, finding_alike, finding_of, first_alike, spelled_key,
 };
-use crate::further_refusals::{FurtherRefusal, RefusalKind, refusals_from};
-use crate::general_sentences::general_sentence;
+use crate::further_refusals::{Extent, FurtherRefusal, RefusalKind, refusals_from};
+use crate::general_sentences::{general_kind, general_sentence};
 use crate::loop_sites::loop_of;
+use crate::message_kinds::MessageKind;
+use crate::near_names::NearestName;
 use crate::report::{
-    MAX_TOLD, Message, Messages, Page, Spot, place_text, shown_name, source_pages,
+    MAX_TOLD, Message, Messages, Page, Spot, is_xml_page, place_text, shown_name, source_pages,
 };
 use crate::sites::{Site, name_of_key, sites_of};
 use rn_assemble::Refusal;
@@ -20,9 +22,6 @@ use rn_files::SourceFile;
 use rn_lift::Lifted;
 use std::alloc::{AllocError, Global};
 use std::collections::BTreeSet;
-
-/// A sentence, and the place that it is told at.
-type Placed = (Option<Spot>, String);
 
 /// What is told of modules that are refused. Where texts are at fault, it is the fault of each text; else the refusal,
 /// at the first place that it speaks of, and then those that would be answered once it is mended, of the kinds of which
@@ -32,6 +31,32 @@ pub fn refusal_messages(
     files: &[SourceFile],
     lifted: &Lifted,
     refusal: &Refusal,
+) -> Result<Messages, AllocError>
+    ensures { IfOk result IsFew }
+{
+    messages_to(alloc, files, lifted, refusal, Extent::Whole)
+}
+
+/// What is told of modules that are parts of a schema and are refused, as [`refusal_messages`] tells it, but for the lack
+/// of a start and names that nothing defines.
+pub fn refusal_messages_of_parts(
+    alloc: Global,
+    files: &[SourceFile],
+    lifted: &Lifted,
+    refusal: &Refusal,
+) -> Result<Messages, AllocError>
+    ensures { IfOk result IsFew }
+{
+    messages_to(alloc, files, lifted, refusal, Extent::Parts)
+}
+
+/// What is told of modules that are refused.
+fn messages_to(
+    alloc: Global,
+    files: &[SourceFile],
+    lifted: &Lifted,
+    refusal: &Refusal,
+    extent: Extent,
 ) -> Result<Messages, AllocError>
     ensures { IfOk result IsFew }
 {
@@ -46,7 +71,7 @@ pub fn refusal_messages(
     let instances = instances(alloc, &sites)?;
     let own = instances_of(alloc, &sites, instances.as_slice())?;
     let defined = taking_part(alloc, &sites, instances.as_slice(), own.as_slice())?;
-    let found = refusals_from(alloc, &sites, defined.as_slice(), refusal)?;
+    let found = refusals_from(alloc, &sites, defined.as_slice(), refusal, extent)?;
     let telling = Telling {
         alloc,
         pages: pages.as_slice(),
@@ -56,7 +81,7 @@ pub fn refusal_messages(
         defined: defined.as_slice(),
     };
     if found.is_empty() {
-        Messages::of_message(alloc, message_of(place_refusal(&telling, refusal)?))
+        Messages::of_message(alloc, refusal_message(&telling, refusal)?)
     } else {
         tell(&telling, found.as_slice())
     }
@@ -105,23 +130,56 @@ fn tell_finding(
     if told.count_if_full() {
         return Ok(());
     }
-    let spot = spot_of(telling, finding.here);
-    let sentence = finding_sentence(telling, finding)?;
-    told.messages.push(Message { spot, sentence })?;
+    told.messages.push(finding_message(telling, finding)?)?;
     Ok(())
 }
 
-fn message_of(placed: Placed) -> Message {
-    let (spot, sentence) = placed;
-    Message { spot, sentence }
+/// The message of a finding.
+fn finding_message(telling: &Telling<'_>, finding: Finding<'_>) -> Result<Message, AllocError> {
+    let spot = spot_of(telling, finding.here);
+    let sentence = finding_sentence(telling, finding)?;
+    let kind = finding_kind(finding.kind);
+    let mut message = Message::new(telling.alloc, kind, spot, sentence);
+    for site in [finding.there, finding.elsewhere] {
+        push_other(telling, &mut message, site)?;
+    }
+    Ok(message)
 }
 
-/// A refusal for which no others are looked for.
-fn place_refusal(telling: &Telling<'_>, refusal: &Refusal) -> Result<Placed, AllocError> {
+/// Adds a further place of a message, where it is found.
+fn push_other(
+    telling: &Telling<'_>,
+    message: &mut Message,
+    site: Option<Site>,
+) -> Result<(), AllocError> {
+    if let Some(spot) = spot_of(telling, site) {
+        message.others.push(spot)?;
+    }
+    Ok(())
+}
+
+/// What a message on a refusal is about.
+fn finding_kind(kind: RefusalKind) -> MessageKind {
+    match kind {
+        RefusalKind::Override => MessageKind::Override,
+        RefusalKind::PlainTwice => MessageKind::Duplicate,
+        RefusalKind::MixedMethods => MessageKind::Combine,
+        RefusalKind::NoStart => MessageKind::Start,
+        RefusalKind::Undefined => MessageKind::Undefined,
+    }
+}
+
+/// The message of a refusal for which no others are looked for.
+fn refusal_message(telling: &Telling<'_>, refusal: &Refusal) -> Result<Message, AllocError> {
     match refusal {
         Refusal::Recursive { name } => recursive_name(telling, name.as_str()),
         Refusal::NameClass { key } => name_class(telling, name_of_key(key)),
-        _ => Ok((None, general_sentence(telling.alloc, refusal)?)),
+        _ => Ok(Message::new(
+            telling.alloc,
+            general_kind(refusal),
+            None,
+            general_sentence(telling.alloc, refusal)?,
+        )),
     }
 }
 
@@ -131,7 +189,7 @@ fn finding_sentence(telling: &Telling<'_>, finding: Finding<'_>) -> Result<Strin
         RefusalKind::PlainTwice => plain_twice(telling, finding),
         RefusalKind::MixedMethods => mixed_methods(telling, finding),
         RefusalKind::NoStart => general_sentence(telling.alloc, &Refusal::NoStart),
-        RefusalKind::Undefined => sentence_on(telling, finding, "is not defined"),
+        RefusalKind::Undefined => undefined_name(telling, finding),
     }
 }
 
@@ -140,27 +198,76 @@ fn spot_of(telling: &Telling<'_>, site: Option<Site>) -> Option<Spot> {
     site.and_then(|site| telling.sites.spot(site))
 }
 
+/// Whether a site is in a file in the XML syntax.
+fn is_xml(telling: &Telling<'_>, site: Site) -> bool {
+    telling
+        .sites
+        .spot(site)
+        .is_some_and(|spot| is_xml_page(telling.pages, spot.file))
+}
+
 /// Where a site is, as `FILE:LINE:COLUMN`.
 fn site_text(telling: &Telling<'_>, site: Site) -> Result<String, AllocError> {
     place_text(telling.alloc, telling.pages, telling.sites.spot(site))
+}
+
+/// A name that is not defined, with the nearest one of its grammar.
+fn undefined_name(telling: &Telling<'_>, finding: Finding<'_>) -> Result<String, AllocError> {
+    let mut nearest = NearestName::new();
+    let stem = stem_of(telling, finding);
+    for one in telling.defined {
+        offer_key(telling, finding.name, stem, one.key, &mut nearest)?;
+    }
+    nearest.sentence(telling.alloc, finding.name)
+}
+
+/// What stands in the modules before a name that a file writes at the site of a finding.
+fn stem_of<'t>(telling: &Telling<'t>, finding: Finding<'_>) -> &'t str {
+    let name = finding.here.and_then(|site| telling.sites.used_name(site));
+    name.and_then(|name| name.strip_suffix(finding.name))
+        .unwrap_or("")
+}
+
+/// Offers a key as the file writes it in the place of a name, if it is one of the grammar whose names have this stem.
+fn offer_key<'t>(
+    telling: &Telling<'t>,
+    name: &str,
+    stem: &str,
+    key: &'t str,
+    nearest: &mut NearestName<'t>,
+) -> Result<(), AllocError> {
+    match key.strip_prefix(stem) {
+        Some(other) if !key.is_empty() && spelled_key(telling, key) == other => {
+            nearest.offer(telling.alloc, name, other)
+        }
+        _ => Ok(()),
+    }
 }
 
 /// Two definitions by `=`, or one that two includes bring.
 fn plain_twice(telling: &Telling<'_>, finding: Finding<'_>) -> Result<String, AllocError> {
     let name = shown_name(telling.alloc, finding.name)?;
     match (finding.here, finding.there, finding.elsewhere) {
-        (Some(_), Some(one), Some(other)) => {
+        (Some(here), Some(one), Some(other)) => {
             let one = site_text(telling, one)?;
             let other = site_text(telling, other)?;
+            let by = if is_xml(telling, here) {
+                "without combine"
+            } else {
+                "with ="
+            };
             format!(in telling.alloc;
-                "`{name}` is defined here with =, and comes twice: by the includes in {one} and in {other}"
+                "`{name}` is defined here {by}, and comes twice: by the includes in {one} and in {other}"
             )
         }
-        (Some(_), Some(other), None) => {
+        (Some(here), Some(other), None) => {
             let other = site_text(telling, other)?;
-            format!(in telling.alloc;
-                "`{name}` is defined here and in {other}, neither with |= nor &="
-            )
+            let by = if is_xml(telling, here) {
+                "both times without combine"
+            } else {
+                "neither with |= nor &="
+            };
+            format!(in telling.alloc; "`{name}` is defined here and in {other}, {by}")
         }
         (Some(_), None, _) => sentence_on(
             telling,
@@ -177,11 +284,16 @@ fn plain_twice(telling: &Telling<'_>, finding: Finding<'_>) -> Result<String, Al
 
 /// Definitions by `|=` and by `&=`.
 fn mixed_methods(telling: &Telling<'_>, finding: Finding<'_>) -> Result<String, AllocError> {
-    let (Some(_), Some(interleave)) = (finding.here, finding.there) else {
+    let (Some(here), Some(interleave)) = (finding.here, finding.there) else {
         return sentence_on(telling, finding, "is combined by |= and by &=");
     };
     let name = shown_name(telling.alloc, finding.name)?;
     let other = site_text(telling, interleave)?;
+    if is_xml(telling, here) {
+        return format!(in telling.alloc;
+            "`{name}` is combined by choice here, and by interleave in {other}"
+        );
+    }
     format!(in telling.alloc; "`{name}` is combined by |= here, and by &= in {other}")
 }
 
@@ -225,10 +337,25 @@ fn sentence_on(
 }
 
 /// A name that comes back to itself outside elements.
-fn recursive_name(telling: &Telling<'_>, name: &str) -> Result<Placed, AllocError> {
+fn recursive_name(telling: &Telling<'_>, name: &str) -> Result<Message, AllocError> {
+    let way = loop_of(telling.alloc, telling.sites, telling.defined, name)?;
+    let spot = spot_of(telling, way.first().copied());
+    let sentence = recursive_sentence(telling, name, way.as_slice())?;
+    let mut message = Message::new(telling.alloc, MessageKind::Recursive, spot, sentence);
+    for site in way.iter().skip(1).take(MAX_TOLD - 1) {
+        push_other(telling, &mut message, Some(*site))?;
+    }
+    Ok(message)
+}
+
+/// That a name comes back to itself by these definitions.
+fn recursive_sentence(
+    telling: &Telling<'_>,
+    name: &str,
+    way: &[Site],
+) -> Result<String, AllocError> {
     let written = shown_name(telling.alloc, spelled_key(telling, name))?;
     let mut sentence = format!(in telling.alloc; "`{written}` refers to itself outside elements")?;
-    let way = loop_of(telling.alloc, telling.sites, telling.defined, name)?;
     for (number, site) in way.iter().copied().enumerate().take(MAX_TOLD) {
         if number > 0 {
             sentence.push_str(if number == 1 { ": by `" } else { ", then `" })?;
@@ -239,7 +366,7 @@ fn recursive_name(telling: &Telling<'_>, name: &str) -> Result<Placed, AllocErro
         }
     }
     push_others(telling.alloc, &mut sentence, way.len())?;
-    Ok((spot_of(telling, way.first().copied()), sentence))
+    Ok(sentence)
 }
 
 /// Appends how many members of a loop are not told.
@@ -260,12 +387,12 @@ fn name_at<'t>(telling: &Telling<'t>, site: Site) -> &'t str {
 }
 
 /// Definitions with a name class that is not allowed in one of them.
-fn name_class(telling: &Telling<'_>, key: &str) -> Result<Placed, AllocError> {
+fn name_class(telling: &Telling<'_>, key: &str) -> Result<Message, AllocError> {
     let name = shown_name(telling.alloc, spelled_key(telling, key))?;
     let sentence = format!(in telling.alloc;
         "a definition of `{name}`, of which this is the first, has a name class that is not allowed: * excepts *, p:* excepts * or p:*, or an attribute may be named xmlns (RELAX NG, section 4.16)"
     )?;
     let found = brought_definitions_of(telling, key)?;
-    let site = found.first().map(|one| one.site);
-    Ok((spot_of(telling, site), sentence))
+    let spot = spot_of(telling, found.first().map(|one| one.site));
+    Ok(Message::new(telling.alloc, MessageKind::NameClass, spot, sentence))
 }

@@ -3,8 +3,8 @@ use crate::outside_names::outside_names;
 use crate::report::Spot;
 use rn_assemble::Key;
 use rn_lift::Lifted;
-use rn_outline::{OutlineMethod, Part, PartKind, name_in, read_outline};
-use rn_text::tokens;
+use rn_outline::{OutlineFault, OutlineMethod, Part, PartKind, name_in, read_outline};
+use rn_text::{TextFault, tokens};
 use std::alloc::{AllocError, Global};
 
 /// A definition of an include that overrides.
@@ -111,15 +111,21 @@ fn module_sites(alloc: Global, text: &str) -> Result<ModuleSites, AllocError> {
         overrides: Vec::new(alloc),
         outside: Vec::new(alloc),
     };
-    let Ok(tokens) = tokens(alloc, text.as_bytes()) else {
-        return Ok(sites);
+    let tokens = match tokens(alloc, text.as_bytes()) {
+        Ok(tokens) => tokens,
+        Err(TextFault::Memory) => return Err(AllocError),
+        Err(_) => return Ok(sites),
     };
-    if let Ok(outline) = read_outline(alloc, text, tokens.as_slice()) {
-        sites.overrides = overrides(alloc, text, outline.parts.as_slice())?;
-        sites.outside = outside_names(alloc, tokens.as_slice())?;
-        sites.parts = outline.parts;
+    match read_outline(alloc, text, tokens.as_slice()) {
+        Ok(outline) => {
+            sites.overrides = overrides(alloc, text, outline.parts.as_slice())?;
+            sites.outside = outside_names(alloc, tokens.as_slice())?;
+            sites.parts = outline.parts;
+            Ok(sites)
+        }
+        Err(OutlineFault::Memory) => Err(AllocError),
+        Err(_) => Ok(sites),
     }
-    Ok(sites)
 }
 
 /// What the includes override, in the order of includes and keys.
@@ -180,6 +186,12 @@ impl Sites<'_> {
     pub fn key(&self, site: Site) -> Option<&str> {
         let part = self.part(site)?;
         key_of(self.text(site.module), part)
+    }
+
+    /// The name that is referred to at a site.
+    pub fn used_name(&self, site: Site) -> Option<&str> {
+        let part = self.part(site)?;
+        use_of(self.text(site.module), part).map(|(name, _)| name)
     }
 
     /// Whether a name that begins at the byte is outside elements.

@@ -1,4 +1,6 @@
 // Stores of patterns: what constructors make of members, and which patterns are new.
+ghost use Rattle.std.specs.Prelude.{IfOk, IsTrue};
+
 use rn_pattern::{Interned, Patterns, Plain};
 use std::alloc::AllocError;
 use std::process::Abort;
@@ -115,4 +117,34 @@ fn a_plain_store_counts_each_pattern(rt: HostRuntime) {
     let mut store = Plain::new(rt.alloc());
     is_told(&rt, makes_anew(&mut store), "a reference is made anew");
     assert_eq!(rt; store.nodes(), 2);
+}
+
+/// Two towers of that many nested lists, which differ at the bottom alone.
+fn towers<P: Patterns>(store: &mut P, height: usize) -> Result<(P::Id, P::Id), AllocError>
+    ensures { IfOk result (λ both. IsTrue (P.knows store.new both.0)
+        × IsTrue (P.knows store.new both.1)) }
+{
+    let mut a = store.reference("a")?;
+    let mut b = store.reference("b")?;
+    for _ in 0..height {
+        a = store.list(a)?;
+        b = store.list(b)?;
+    }
+    Ok((a, b))
+}
+
+/// Whether the choice of two towers is the same in either order, and neither of them.
+fn compares_towers(store: &mut Interned, height: usize) -> Result<bool, AllocError> {
+    let (a, b) = towers(store, height)?;
+    let choice = store.choice(&[b, a])?;
+    Ok(choice != a && choice != b && store.choice(&[a, b])? == choice)
+}
+
+#[test]
+fn towers_of_lists_are_compared_without_a_call_for_each(rt: HostRuntime) {
+    is_told(
+        &rt,
+        compares_towers(&mut Interned::new(rt.alloc()), 20_000),
+        "the order of two towers counts",
+    );
 }

@@ -134,6 +134,9 @@ fn fault_of(error: &io::Error) -> FileFault {
     match error.kind() {
         ErrorKind::NotFound => FileFault::Missing,
         ErrorKind::IsADirectory => FileFault::Folder,
+        ErrorKind::PermissionDenied => FileFault::Denied,
+        ErrorKind::FilesystemLoop => FileFault::Links,
+        ErrorKind::NotADirectory => FileFault::Inner,
         ErrorKind::OutOfMemory => FileFault::Memory,
         _ => FileFault::Refused,
     }

@@ -1,6 +1,5 @@
 // The files of the system, as they are written.
-use rn_flat::Outputs;
-use rn_merge::Failed;
+use rn_flat::{Outputs, WriteFault};
 use std::fs::{File, Metadata, OpenOptions, Permissions};
 use std::io::{ErrorKind, Write};
 use std::os::unix::fs::{MetadataExt, PermissionsExt};
@@ -20,8 +19,22 @@ pub struct Written<'a> {
 }
 
 impl Outputs for Written<'_> {
-    fn replace(&mut self, path: &str, bytes: &[u8]) -> Result<(), Failed> {
-        write_whole(self.rt, path, bytes).map_err(|_| Failed)
+    fn replace(&mut self, path: &str, bytes: &[u8]) -> Result<(), WriteFault> {
+        write_whole(self.rt, path, bytes).map_err(|error| fault_of(&error))
+    }
+}
+
+/// Why the system takes no bytes.
+pub fn fault_of(error: &io::Error) -> WriteFault {
+    match error.kind() {
+        ErrorKind::PermissionDenied => WriteFault::Denied,
+        ErrorKind::NotFound => WriteFault::Missing,
+        ErrorKind::IsADirectory => WriteFault::Folder,
+        ErrorKind::NotADirectory => WriteFault::Inner,
+        ErrorKind::StorageFull | ErrorKind::QuotaExceeded => WriteFault::Full,
+        ErrorKind::ReadOnlyFilesystem => WriteFault::ReadOnly,
+        ErrorKind::BrokenPipe => WriteFault::Closed,
+        _ => WriteFault::Refused,
     }
 }
 

@@ -2,7 +2,7 @@
 use Rattle.std.specs.Prelude.{◌≡◌, ℕ, ◌≤◌, Bool, List, take, MatchOption, Option, Some, None, string_bytes, vec_len}
 use Rattle.std.specs.Borrow.{Bor}
 use Rattle.rn_files.specs.Maps.{IsLocation}
-use Rattle.rn_files.specs.ReadableFiles.{Gives, IsFrontOfRead, IsReadAt, Leads, Reads, with_slash}
+use Rattle.rn_files.specs.ReadableFiles.{Gives, IsKept, IsReadAt, IsTextRead, Leads, Reads, with_slash}
 use Rattle.rn_files.specs.declared.maps.Map.{Map}
 use Rattle.rn_files.specs.declared.bounds.Ways.{Ways}
 use Rattle.rn_files.specs.declared.root_folder.RootFolder.{RootFolder}
@@ -26,10 +26,12 @@ IsReadBy leads gives ways = IsReadAt leads gives (root_path ways.root) ways.maps
 abbrev pub IsRootOf : Leads → List ℕ → RootFolder → Type 0
 IsRootOf leads named root = (folder : List ℕ) × leads named folder × (string_bytes root.real ≡ with_slash folder)
 
--- where a file has no fault, its text is what was read; else it is a front of what was read, or nothing
+-- where a file has no fault, its text is what was read; else it is a front of what was read, or nothing. Of a file in the XML syntax
+-- it is made of what was read
 abbrev pub IsFollowed : Reads → Followed → Type 0
 IsFollowed reads f =
-    MatchOption f.outline (IsFrontOfRead reads (string_bytes f.text)) (λ o. reads (string_bytes f.found.uri) (string_bytes f.found.path) (string_bytes f.text))
+    MatchOption f.outline (IsKept reads (string_bytes f.text) f.written)
+    (λ o. IsTextRead reads (string_bytes f.found.uri) (string_bytes f.found.path) (string_bytes f.text) f.written)
 
 -- a URI leads to the file at this path: it lies at a place (below the folder of a map, or at the path of a `file` URI), and what is
 -- there is the file, whose one path this is

@@ -1,0 +1,9 @@
+use Rattle.std.proofs.Common.{subst}
+use Rattle.rn_assemble.specs.GrammarView.{grammar_view}
+use Rattle.rn_assemble.specs.ShortTexts.{IsShortened, short_texts}
+use Rattle.rn_flat.proofs.jobs.grammar.Goals as goal
+
+pub returns-in-Ok : goal.returns-in-Ok
+returns-in-Ok c =
+    let g = c.in-Ok.grammar in
+    subst (λ s. IsShortened s (short_texts g.uris) (grammar_view g.grammar)) c.in_ok-set.ensures c.in-Ok.ensures

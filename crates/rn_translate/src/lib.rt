@@ -1,0 +1,26 @@
+//! Schemas in the XML syntax of RELAX NG, translated into the compact syntax.
+//!
+//! [`compact_text`] makes a compact text of a document, with the place of each piece, so that what is wrong with the
+//! text is told of the document. It goes element by element and looks nowhere else, so work and memory grow with the
+//! document and the text; nothing recurses.
+#![tactic(auto)]
+
+mod content;
+mod document_parts;
+mod draft;
+mod elements;
+mod items;
+mod kinds;
+mod rng_fault;
+mod standing;
+mod translated;
+mod translation;
+mod translator;
+mod uris;
+mod written_names;
+
+pub use draft::{MAX_TEXT, Place};
+pub use kinds::Kind;
+pub use rng_fault::{RngFault, RngFaultKind};
+pub use translated::{Places, Translated};
+pub use translation::compact_text;

@@ -1,0 +1,126 @@
+// The compact text of a document, with the place of each piece.
+ghost use Rattle.std.specs.Prelude.{◌≡◌, ◌≤◌, length, IfErr, IfOk};
+ghost use Rattle.std.specs.String.{string_len};
+ghost use Rattle.rn_translate.specs.Limits.{max_text};
+ghost use Rattle.rn_translate.specs.Places.{ArePlaces};
+
+use crate::draft::Draft;
+use crate::rng_fault::RngFault;
+use crate::translated::{Places, Translated};
+use crate::translator::Translator;
+use crate::uris::{BoundUri, Uri, Uris};
+use rn_xml::XmlDocument;
+use std::alloc::Global;
+
+/// The schema that a document is, in the compact syntax (RELAX NG 2001, section 3; compact syntax, appendix A). The text
+/// of the document is given too. What section 4 would inherit is written where it is used: the namespace of the root is
+/// the default one, others and datatype libraries have prefixes. Elements and attributes of other vocabularies leave
+/// nothing (4.1).
+///
+/// Refused at the first place where the document is no schema in the XML syntax, where the text would have more than
+/// [`MAX_TEXT`](crate::MAX_TEXT) bytes, and wherever memory is.
+#[tactic(auto, using(crate::proofs::RisingPlaces::pieces_of_draft))]
+pub fn compact_text(
+    alloc: Global,
+    source: &str,
+    document: &XmlDocument<'_>,
+) -> Result<Translated, RngFault>
+    ensures small { IfOk result (λ made. string_len made.text ≤ max_text) }
+    ensures places { IfOk result (λ made. ArePlaces (string_len made.text) (length source.now)
+        made.places.items.items) }
+    ensures fault { IfErr result (λ fault. fault.at ≤ length source.now) }
+{
+    match whole_text(alloc, source, document) {
+        Ok(Draft { text, places, .. }) => Ok(Translated {
+            text,
+            places: Places { items: places },
+        }),
+        Err(RngFault { at, kind }) => Err(RngFault {
+            at: at.min(source.len()),
+            kind,
+        }),
+    }
+}
+
+/// The compact text of a document: its declarations, and what its elements come to.
+fn whole_text(alloc: Global, source: &str, document: &XmlDocument<'_>) -> Result<Draft, RngFault>
+    ensures { IfOk result (λ whole. whole.source_len ≡ length source.now) }
+{
+    let mut translator = Translator::new(alloc, source, document)?;
+    translator.walk()?;
+    let mut whole = Draft::new(alloc, source.len());
+    declare_default(alloc, &mut whole, &translator)?;
+    let uris = &translator.uris;
+    declare_all(
+        alloc,
+        &mut whole,
+        uris,
+        "namespace n",
+        &translator.namespaces.bound,
+    )?;
+    declare_all(
+        alloc,
+        &mut whole,
+        uris,
+        "datatypes d",
+        &translator.libraries.bound,
+    )?;
+    whole.append(&translator.body)?;
+    Ok(whole)
+}
+
+/// Declares the namespace of the root, if it has one.
+fn declare_default(
+    alloc: Global,
+    whole: &mut Draft,
+    translator: &Translator<'_, '_>,
+) -> Result<(), RngFault>
+    ensures { whole.new.source_len ≡ whole.old.source_len }
+{
+    if translator.default == Uri::INHERITED {
+        return Ok(());
+    }
+    let bound = BoundUri {
+        uri: translator.default,
+        at: 0,
+    };
+    declare(alloc, whole, &translator.uris, "default namespace", bound)
+}
+
+/// Declares prefixes: a letter and a number, from 1 on.
+fn declare_all(
+    alloc: Global,
+    whole: &mut Draft,
+    uris: &Uris<'_>,
+    front: &str,
+    bound: &[BoundUri],
+) -> Result<(), RngFault>
+    ensures { whole.new.source_len ≡ whole.old.source_len }
+{
+    for (before, bound) in bound.iter().enumerate() {
+        let number = before + 1;
+        let declared = format!(in alloc; "{front}{number}")?;
+        declare(alloc, whole, uris, declared.as_str(), *bound)?;
+    }
+    Ok(())
+}
+
+/// Declares what is bound to a URI.
+fn declare(
+    alloc: Global,
+    whole: &mut Draft,
+    uris: &Uris<'_>,
+    declared: &str,
+    bound: BoundUri,
+) -> Result<(), RngFault>
+    ensures { whole.new.source_len ≡ whole.old.source_len }
+{
+    whole.put(bound.at, declared)?;
+    whole.put(bound.at, " = ")?;
+    if bound.uri == Uri::INHERITED {
+        whole.put(bound.at, "inherit")?;
+    } else {
+        whole.put_literal(alloc, bound.at, uris.text(bound.uri))?;
+    }
+    whole.put(bound.at, "\n")
+}

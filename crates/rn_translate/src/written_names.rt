@@ -1,0 +1,169 @@
+// Names in a schema, and how they are written in the compact text (RELAX NG 2001, 4.2 and 4.8 to 4.10).
+use crate::content::may_have;
+use crate::document_parts::trimmed;
+use crate::kinds::Kind;
+use crate::rng_fault::{RngFault, RngFaultKind, shown};
+use crate::translator::Translator;
+use crate::uris::Uri;
+use rn_text::{is_keyword, is_ncname};
+use rn_xml::{NO_NAMESPACE, XML_NAMESPACE, XmlAttribute, XmlElement};
+
+/// The part of a qualified name before its colon, if it has one, and the rest.
+fn split_name(name: &str) -> (Option<&str>, &str) {
+    match name.split_once(':') {
+        Some((prefix, local)) => (Some(prefix), local),
+        None => (None, name),
+    }
+}
+
+impl<'d, 'a> Translator<'d, 'a> {
+    /// Looks at the attributes of an element, in text order. Refused at the first that the element doesn't have, or that
+    /// has a value which it can't have.
+    pub fn check_attributes(&self, element: &XmlElement<'a>, kind: Kind) -> Result<(), RngFault> {
+        for attribute in self.document.attributes_of(element) {
+            self.check_attribute(kind, attribute)?;
+        }
+        Ok(())
+    }
+
+    fn check_attribute(&self, kind: Kind, attribute: &XmlAttribute<'a>) -> Result<(), RngFault> {
+        let (uri, local) = (attribute.name.uri, attribute.name.local);
+        if uri == XML_NAMESPACE && local == "base" {
+            return Err(RngFault::new(attribute.at, RngFaultKind::Base));
+        }
+        if uri == NO_NAMESPACE && may_have(kind, local) {
+            return self.check_value(kind, attribute);
+        }
+        if uri == NO_NAMESPACE || Some(uri) == self.rng {
+            return Err(self.unknown_attribute(kind, attribute)?);
+        }
+        Ok(())
+    }
+
+    /// The fault of an attribute that an element doesn't have.
+    fn unknown_attribute(
+        &self,
+        kind: Kind,
+        attribute: &XmlAttribute<'a>,
+    ) -> Result<RngFault, RngFault> {
+        let (prefix, local) = (attribute.name.prefix, attribute.name.local);
+        let written = if prefix.is_empty() {
+            shown(self.alloc, local)?
+        } else {
+            let written = format!(in self.alloc; "{prefix}:{local}")?;
+            shown(self.alloc, written.as_str())?
+        };
+        let kind = RngFaultKind::Attribute {
+            element: kind,
+            name: written,
+        };
+        Ok(RngFault::new(attribute.at, kind))
+    }
+
+    /// Looks at the value of an attribute of RELAX NG.
+    fn check_value(&self, kind: Kind, attribute: &XmlAttribute<'a>) -> Result<(), RngFault> {
+        let (at, value) = (attribute.value_at, attribute.value.as_str());
+        match attribute.name.local.as_bytes() {
+            b"name" if matches!(kind, Kind::Element | Kind::Attribute) => self.check_name(
+                at, value,
+            ),
+            b"name" | b"type" => self.check_local_name(at, trimmed(value)),
+            b"combine" => match trimmed(value).as_bytes() {
+                b"choice" | b"interleave" => Ok(()),
+                _ => Err(RngFault::new(at, RngFaultKind::Combine)),
+            },
+            b"href" if value.contains('#') => Err(RngFault::new(at, RngFaultKind::Fragment)),
+            _ => Ok(()),
+        }
+    }
+
+    /// Looks at a name without a colon.
+    fn check_local_name(&self, at: usize, name: &str) -> Result<(), RngFault> {
+        if is_ncname(name) {
+            return Ok(());
+        }
+        let name = shown(self.alloc, name)?;
+        Err(RngFault::new(at, RngFaultKind::Name(name)))
+    }
+
+    /// Looks at a name that may have a prefix.
+    pub fn check_name(&self, at: usize, text: &str) -> Result<(), RngFault> {
+        let (prefix, local) = split_name(trimmed(text));
+        self.check_local_name(at, local)?;
+        let Some(prefix) = prefix else {
+            return Ok(());
+        };
+        self.check_local_name(at, prefix)?;
+        if self.declared_uri(prefix).is_some() {
+            return Ok(());
+        }
+        let prefix = shown(self.alloc, prefix)?;
+        Err(RngFault::new(at, RngFaultKind::Prefix(prefix)))
+    }
+
+    /// The namespace of a name; without a prefix it is the given one.
+    fn name_namespace(&self, prefix: Option<&str>, unprefixed: Uri) -> Uri {
+        let Some(prefix) = prefix else {
+            return unprefixed;
+        };
+        let index = self.declared_uri(prefix).unwrap_or(NO_NAMESPACE);
+        self.document_uris.get(index).copied().unwrap_or(Uri::EMPTY)
+    }
+
+    /// The namespace that a prefix means here, by its index in the document, if it is declared.
+    fn declared_uri(&self, prefix: &str) -> Option<usize> {
+        self.scopes
+            .uri_of(self.document.declarations.as_slice(), prefix)
+    }
+
+    /// Writes a name of the document, which without a prefix is in the namespace `unprefixed`. In the compact text a name
+    /// without a prefix is in the namespace `bare`.
+    pub fn put_name(
+        &mut self,
+        at: usize,
+        text: &str,
+        unprefixed: Uri,
+        bare: Uri,
+    ) -> Result<(), RngFault> {
+        let (prefix, local) = split_name(trimmed(text));
+        let namespace = self.name_namespace(prefix, unprefixed);
+        if namespace != bare {
+            self.put_prefix(at, namespace)?;
+            self.body.put(at, ":")?;
+        }
+        self.body.put(at, local)
+    }
+
+    /// Writes the prefix of a namespace.
+    pub fn put_prefix(&mut self, at: usize, namespace: Uri) -> Result<(), RngFault> {
+        if namespace == Uri::XML {
+            return self.body.put(at, "xml");
+        }
+        let number = self.namespaces.number(namespace, at)?;
+        let prefix = format!(in self.alloc; "n{number}")?;
+        self.body.put(at, prefix.as_str())
+    }
+
+    /// Writes the name of a definition, after a backslash if it is a keyword.
+    pub fn put_identifier(&mut self, at: usize, text: &str) -> Result<(), RngFault> {
+        let name = trimmed(text);
+        if is_keyword(name) {
+            self.body.put(at, "\\")?;
+        }
+        self.body.put(at, name)
+    }
+
+    /// Writes the name of a datatype of a library (4.3 and 4.4).
+    pub fn put_datatype(&mut self, at: usize, text: &str, library: Uri) -> Result<(), RngFault> {
+        let name = trimmed(text);
+        let is_builtin = library == Uri::EMPTY && matches!(name.as_bytes(), b"string" | b"token");
+        if library == Uri::XSD {
+            self.body.put(at, "xsd:")?;
+        } else if !is_builtin {
+            let number = self.libraries.number(library, at)?;
+            let prefix = format!(in self.alloc; "d{number}:")?;
+            self.body.put(at, prefix.as_str())?;
+        }
+        self.body.put(at, name)
+    }
+}

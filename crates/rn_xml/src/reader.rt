@@ -1,0 +1,120 @@
+// A document, read from its text.
+ghost use Rattle.std.specs.Prelude.{◌≡◌, ◌⊎◌, ◌<◌, ◌≤◌, length, IfErr, IfSome, IsNone};
+ghost use Rattle.rn_xml.specs.inside.Rests.{StopsWithin};
+ghost use Rattle.rn_xml.specs.inside.Readers.{HasRoomFor, ReadsOn};
+
+use crate::characters::after_front;
+use crate::declaration::after_declaration;
+use crate::document::XmlDocument;
+use crate::markup::{after_misc, split_text};
+use crate::stop::Stop;
+use crate::tags::TagReader;
+use crate::xml_fault::{XmlFault, XmlFaultKind};
+use std::alloc::Global;
+
+/// Why the text can't be that of the innermost open element, whose place has this many bytes behind it.
+fn unclosed(left: usize, rest: &str) -> Option<Stop>
+    ensures ends { IfSome result (λ stop. (stop.left ≡ left) ⊎ (stop.left ≡ length rest.now)) }
+    ensures more { IsNone result → 0 < length rest.now }
+{
+    if rest.is_empty() {
+        return Some(Stop {
+            left,
+            kind: XmlFaultKind::NotClosed,
+        });
+    }
+    if after_front(rest, "<!DOCTYPE").is_some() {
+        return Some(Stop::before(rest, XmlFaultKind::Doctype));
+    }
+    None
+}
+
+/// Why no root element begins here, if none does.
+fn no_root(rest: &str) -> Option<Stop>
+    ensures { IfSome result (StopsWithin rest.now) }
+{
+    if rest.is_empty() {
+        return Some(Stop::before(rest, XmlFaultKind::NoRoot));
+    }
+    if after_front(rest, "<!DOCTYPE").is_some() {
+        return Some(Stop::before(rest, XmlFaultKind::Doctype));
+    }
+    None
+}
+
+/// What may not follow the root element.
+fn further(rest: &str) -> Stop
+    ensures { StopsWithin rest.now result }
+{
+    if after_front(rest, "<").is_some() {
+        Stop::before(rest, XmlFaultKind::SecondRoot)
+    } else {
+        Stop::before(rest, XmlFaultKind::Outside)
+    }
+}
+
+/// Reads the text before the next tag, and that tag, in an element that is open, and answers what follows.
+fn read_piece<'a>(reader: &mut TagReader<'a>, parent: usize, text: &'a str) -> Result<&'a str, Stop>
+    requires { HasRoomFor reader.old text.now }
+    ensures reads { ReadsOn reader.old text.now result }
+    ensures same { reader.new.len ≡ reader.old.len }
+{
+    let (content, left, tag) = split_text(reader.alloc, text)?;
+    if !content.is_empty() {
+        reader.add_text(parent, left, content)?;
+    }
+    if let Some(stop) = unclosed(reader.left_of(parent), tag) {
+        return Err(stop);
+    }
+    match after_front(tag, "</") {
+        Some(inside) => reader.read_end_tag(tag, inside),
+        None => reader.read_start_tag(tag, Some(parent)),
+    }
+}
+
+/// Reads the root element, and answers what follows it.
+fn read_root<'a>(reader: &mut TagReader<'a>, text: &'a str) -> Result<&'a str, Stop>
+    requires { HasRoomFor reader.old text.now }
+    ensures reads { ReadsOn reader.old text.now result }
+    ensures same { reader.new.len ≡ reader.old.len }
+{
+    let mut rest = reader.read_start_tag(text, None)?;
+    while let Some(parent) = reader.innermost() {
+        rest = read_piece(reader, parent, rest)?;
+    }
+    Ok(rest)
+}
+
+/// The document that the text is.
+fn read_whole<'a>(alloc: Global, text: &'a str) -> Result<XmlDocument<'a>, Stop>
+    ensures { IfErr result (StopsWithin text.now) }
+{
+    let root = after_misc(after_declaration(text)?)?;
+    if let Some(stop) = no_root(root) {
+        return Err(stop);
+    }
+    let mut reader = TagReader::new(alloc, text.len())?;
+    let rest = after_misc(read_root(&mut reader, root)?)?;
+    if !rest.is_empty() {
+        return Err(further(rest));
+    }
+    Ok(reader.tables.document)
+}
+
+/// The document that the text is (XML 1.0 Fifth Edition; Namespaces in XML 1.0). Refused at its first fault: where the
+/// text is not well-formed, has a document type declaration, or more than [`MAX_DEPTH`] elements are open, and wherever
+/// memory is. The names of a tag are faulty only if all of the tag is read: then first its own, and then those of its
+/// attributes in text order.
+///
+/// [`MAX_DEPTH`]: crate::MAX_DEPTH
+pub fn read_document<'a>(alloc: Global, text: &'a str) -> Result<XmlDocument<'a>, XmlFault>
+    ensures { IfErr result (λ fault. fault.at ≤ length text.now) }
+{
+    match read_whole(alloc, text) {
+        Ok(document) => Ok(document),
+        Err(stop) => Err(XmlFault {
+            at: text.len() - stop.left,
+            kind: stop.kind,
+        }),
+    }
+}
