@@ -21,7 +21,7 @@ HERE = os.path.dirname(os.path.abspath(__file__))
 sys.path.insert(0, os.path.dirname(HERE))
 from toolchain import EMPTY_SET, TOP, compiler
 
-BUILT = ["rnc_merge/out/rnc_merge", "rn_units/out/rn_units_tests", "rn_vectors/out/rn_vectors_tests"]
+BUILT = ["rnc_merge/out/rnc_merge", "core_tests/out/core_tests_tests", "pipeline_tests/out/pipeline_tests_tests"]
 FIRST_LINE = 'default namespace = ""\n'
 WANT = (3, b"", b"Memory\n")
 # The marks of the tests, in bytes.

@@ -5,7 +5,7 @@ ghost use Rattle.rn_flat.specs.Comparisons.{DifferFirst};
 
 use crate::flat_fault::{FlatFault, plain_lines, refusal_fault};
 use rn_files::{FileFault, Files, Kinds, STANDARD_INPUT, line_of, position};
-use rn_tell::{
+use rn_report::{
     Format, Message, MessageKind, Messages, Page, SHOWN, Spot, push_printable, skipped_front,
 };
 use std::alloc::{AllocError, Global};

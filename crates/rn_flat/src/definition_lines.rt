@@ -4,7 +4,7 @@ use rn_assemble::Grammar;
 use rn_files::{Position, SourceFile};
 use rn_lift::Lifted;
 use rn_outline::{PartKind, name_in, read_outline};
-use rn_tell::{DefinitionPlace, definition_places, push_printable};
+use rn_report::{DefinitionPlace, definition_places, push_printable};
 use rn_text::{is_keyword, tokens};
 use std::alloc::{AllocError, Global};
 use std::collections::BTreeSet;

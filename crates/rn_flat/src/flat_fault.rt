@@ -2,7 +2,7 @@
 ghost use Rattle.std.specs.Prelude.{◌≡◌};
 ghost use Rattle.rn_flat.specs.FlatFaults.{status};
 
-use rn_tell::{Format, Message, MessageKind, Messages, Page, message_text};
+use rn_report::{Format, Message, MessageKind, Messages, Page, message_text};
 use std::alloc::{AllocError, AllocFailed, Global};
 
 /// Why the program does not do its work, with the lines that say so.

@@ -7,8 +7,8 @@ use crate::module_set::set_of;
 use rn_files::{SourceFile, Sources};
 use rn_lift::{Lifted, lift};
 use rn_modset::{AddFault, ModuleSet};
-use rn_plan::{LiftFault, LiftFaultKind, Lifting};
-use rn_tell::{Format, Messages, lift_messages, set_message, source_pages};
+use rn_report::{Format, Messages, lift_messages, set_message, source_pages};
+use rn_scopes::{LiftFault, LiftFaultKind, Lifting};
 use std::alloc::{AllocError, Global};
 
 /// The modules that the files become, or why they become none.

@@ -24,8 +24,8 @@ use rn_files::{Asked, Files, LinkedFiles, SourceFile, Sources, read_files, sourc
 use rn_lift::Lifted;
 use rn_merge::{Sink, merge};
 use rn_modset::write_bundle;
+use rn_report::{Format, MessageKind, refusal_messages};
 use rn_rng::{XmlFault, schema_xml};
-use rn_tell::{Format, MessageKind, refusal_messages};
 use std::alloc::{AllocError, Global};
 
 /// What is said of a schema that has more than [`rn_rng::MAX_XML`] bytes in the XML syntax.

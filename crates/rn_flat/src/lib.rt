@@ -24,5 +24,5 @@ pub use ending::{Ending, ending_status};
 pub use flat_fault::{FlatFault, fault_lines, status};
 pub use jobs::perform;
 pub use outputs::{Outputs, STANDARD_OUTPUT, WriteFault, unwritten_fault};
-pub use rn_tell::{Colours, Format};
+pub use rn_report::{Colours, Format};
 pub use words::{ColourChoice, Job, Product, Syntax, Task, Words, WordsFault, read_words};

@@ -6,8 +6,8 @@ use rn_assemble::{Refusal, assemble_short};
 use rn_files::{SourceFile, Sources};
 use rn_lift::Lifted;
 use rn_modset::{AddFault, Contribution, ModuleSet};
-use rn_plan::LiftFaultKind;
-use rn_tell::{Format, Lacks, lacks_of, refusal_messages_of_parts};
+use rn_report::{Format, Lacks, lacks_of, refusal_messages_of_parts};
+use rn_scopes::LiftFaultKind;
 use std::alloc::{AllocError, Global};
 
 /// The name of the module that defines what the files lack. No file has it: names of files have two digits behind `%`.

@@ -7,7 +7,7 @@ ghost use Rattle.rn_flat.specs.FlatFaults.{IsUnwritten};
 use crate::flat_fault::{FlatFault, plain_lines};
 use rn_files::{FileFault, Files, Kinds, SourceFile};
 use rn_merge::{Failed, Sink, write_output};
-use rn_tell::{Format, MessageKind};
+use rn_report::{Format, MessageKind};
 use std::alloc::{AllocError, Global};
 use thiserror::Error;
 

@@ -2,7 +2,7 @@
 use rn_files::{SourceFault, SourceFaultKind, SourceFile};
 use rn_lift::{Lifted, LiftedModule};
 use rn_outline::PartKind;
-use rn_tell::push_printable;
+use rn_report::push_printable;
 use std::alloc::{AllocError, Global};
 use std::collections::BTreeSet;
 

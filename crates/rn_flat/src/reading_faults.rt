@@ -1,7 +1,7 @@
 // What is wrong with the files that are read.
 use crate::flat_fault::FlatFault;
 use rn_files::{Asked, Reading, ReadingFault};
-use rn_tell::{Format, attempt_pages, is_unread, message_text, reading_messages};
+use rn_report::{Format, attempt_pages, is_unread, message_text, reading_messages};
 use std::alloc::{AllocError, Global};
 
 /// The fault of reading.

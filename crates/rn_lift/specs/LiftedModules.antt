@@ -6,7 +6,7 @@ use Rattle.rn_outline.specs.declared.file_parts.Part.{Part}
 use Rattle.rn_outline.specs.declared.file_parts.PartKind.{PartKind}
 use Rattle.rn_outline.specs.declared.file_parts.PartKind.TheVariants.{Define, Start, Reference}
 use Rattle.rn_outline.specs.declared.file_parts.Span.{Span}
-use Rattle.rn_plan.specs.declared.given.Lifting.{Lifting}
+use Rattle.rn_scopes.specs.declared.given.Lifting.{Lifting}
 use Rattle.rn_lift.specs.Edits.{AreInTurn, edited_bytes}
 use Rattle.rn_lift.specs.Lifts.{bringing_bytes}
 use Rattle.rn_lift.specs.StandIns.{IsEdit, Modules, Scopes, Stays}

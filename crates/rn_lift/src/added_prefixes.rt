@@ -1,7 +1,7 @@
 // Prefixes that a module gets for the libraries of datatypes that come from another file.
 
 use rn_outline::unquoted_name;
-use rn_plan::{Given, Taken, Units};
+use rn_scopes::{Given, Taken, Units};
 use rn_text::{Kind, Token, tokens, write_literal};
 use std::alloc::{AllocError, Global};
 use std::collections::BTreeMap;

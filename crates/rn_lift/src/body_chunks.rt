@@ -4,7 +4,7 @@ ghost use Rattle.rn_text.specs.Reading.{Advanced};
 
 use crate::added_prefixes::split_name;
 use rn_outline::{Part, PartKind, Span, annotation_end};
-use rn_plan::Units;
+use rn_scopes::Units;
 use rn_text::{Token, tokens};
 use std::alloc::{AllocError, Global};
 use std::collections::BTreeMap;

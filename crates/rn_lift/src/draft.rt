@@ -5,7 +5,7 @@ ghost use Rattle.rn_lift.specs.Edits.{AreInTurn, edited_bytes};
 use crate::edits::Edit;
 use crate::lifted::{Basis, LiftedModule, Piece};
 use rn_outline::Span;
-use rn_plan::{LiftFault, LiftFaultKind};
+use rn_scopes::{LiftFault, LiftFaultKind};
 use std::alloc::{AllocError, Global};
 
 /// The text of a module so far, made of the bytes of one file's text and of what is made for places

@@ -6,7 +6,7 @@ ghost use Rattle.rn_lift.specs.inside.Planned.{AddsEdit, IsEditOf, StaysAt};
 use crate::excepts::Spliced;
 use crate::module_texts::{PlaceView, unsound_fault};
 use rn_outline::Span;
-use rn_plan::{LiftFault, Unit};
+use rn_scopes::{LiftFault, Unit};
 use std::alloc::Global;
 
 /// What stands in the place of a part of a file, or of its name.

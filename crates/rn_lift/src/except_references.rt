@@ -2,7 +2,7 @@
 // (RELAX NG 2001, 7.1.4).
 use crate::scope_definitions::{Definition, ScopedName};
 use rn_outline::{OutlineMethod, Part, PartKind};
-use rn_plan::{LiftFault, LiftFaultKind, Plan, Units};
+use rn_scopes::{LiftFault, LiftFaultKind, Plan, Units};
 use std::alloc::{AllocError, Global};
 
 /// A part that is replaced, in the file of a place.

@@ -8,7 +8,7 @@ use crate::body_chunks::{BodyChunks, Chunk};
 use crate::except_references::{Reference, are_data, file_of, key_of, undefined};
 use crate::scope_definitions::{Definition, Definitions, ScopedName};
 use rn_outline::Outline;
-use rn_plan::{LiftFault, LiftFaultKind, Plan, Unit, Units};
+use rn_scopes::{LiftFault, LiftFaultKind, Plan, Unit, Units};
 use std::alloc::{AllocError, Global};
 use std::collections::{BTreeMap, BTreeSet};
 

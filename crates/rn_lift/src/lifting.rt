@@ -1,17 +1,17 @@
 // From files to modules: those of the places of a plan, and those that bring in its scopes.
 ghost use Rattle.std.specs.Prelude.{◌≡◌, ◌<◌, ◌⊎◌, ◌+◌, ℕ, All, Contains, IfOk, IsPermutation, IsTrue, MatchResult, None, OnOk, drop, length, string_bytes, vec_len};
-ghost use Rattle.rn_plan.specs.declared.lift_fault.LiftFaultKind.TheVariants.{Grown};
+ghost use Rattle.rn_scopes.specs.declared.lift_fault.LiftFaultKind.TheVariants.{Grown};
 ghost use Rattle.rn_lift.specs.Lifts.{AreRising, bringing_bytes};
 ghost use Rattle.rn_lift.specs.LiftedModules.{AreMadeOfFiles, BringsIn, KeepsText};
 ghost use Rattle.rn_lift.specs.inside.Planned.{HasPlace, IsBrought, IsModuleOfSomePlace};
 ghost use Rattle.rn_lift.specs.declared.lifted.LiftedModule.{LiftedModule};
-ghost use Rattle.rn_plan.specs.FreeNames.{AreFree};
-ghost use Rattle.rn_plan.specs.ScopeEntries.{entry_of};
+ghost use Rattle.rn_scopes.specs.FreeNames.{AreFree};
+ghost use Rattle.rn_scopes.specs.ScopeEntries.{entry_of};
 
 use crate::excepts::Excepts;
 use crate::lifted::{Lifted, LiftedModule, Piece};
 use crate::module_texts::{module_at, unsound_fault};
-use rn_plan::{LiftFault, LiftFaultKind, Lifting, Names, Plan, Scope, Units, make_plan};
+use rn_scopes::{LiftFault, LiftFaultKind, Lifting, Names, Plan, Scope, Units, make_plan};
 use rn_text::write_literal;
 use std::alloc::{AllocError, Global};
 use std::cmp::Ordering;

@@ -2,7 +2,7 @@
 ghost use Rattle.std.specs.Prelude.{◌≡◌, ◌≢◌, ◌<◌, ◌≤◌, ◌⊎◌, [], ◌∷◌, ◌++◌, false, length, IfOk, IfSome, IsSome, MatchOption, OnOk, None, Some, string_bytes};
 ghost use Rattle.std.specs.List.{list_any};
 ghost use Rattle.rn_text.specs.Literals.{literal_bytes};
-ghost use Rattle.rn_plan.specs.UnitFiles.{target_of};
+ghost use Rattle.rn_scopes.specs.UnitFiles.{target_of};
 ghost use Rattle.rn_lift.specs.LiftedModules.{front};
 ghost use Rattle.rn_lift.specs.StandIns.{IsIncluded, IsLifted, KindStays, Stays};
 ghost use Rattle.rn_lift.specs.inside.Planned.{IsPlaceWithFile, IsModuleOfPlace, IsModuleAt, IsPlaceOf, IsPlanned, IsPlannedScope, IsScopeOf, StandsForAt, StandsForKindAt};
@@ -12,7 +12,7 @@ use crate::edits::edits_of;
 use crate::excepts::{Excepts, Spliced};
 use crate::lifted::{Basis, LiftedModule};
 use rn_outline::{Part, PartKind, Span, name_in};
-use rn_plan::{
+use rn_scopes::{
     Given, LiftFault, LiftFaultKind, PlacedUnit, Plan, ROOT, Scope, Unit, Units, own_name,
 };
 use rn_text::write_literal;

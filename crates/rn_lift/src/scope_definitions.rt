@@ -1,7 +1,7 @@
 // Which definitions a name has in a scope, once overrides are done (RELAX NG 2001, 4.7).
 
 use rn_outline::PartKind;
-use rn_plan::{Plan, ROOT, Unit, Units};
+use rn_scopes::{Plan, ROOT, Unit, Units};
 use std::alloc::{AllocError, Global};
 use std::collections::{BTreeMap, BTreeSet};
 

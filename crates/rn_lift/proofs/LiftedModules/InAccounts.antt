@@ -5,7 +5,7 @@ use Rattle.std.proofs.lemmas.List.Elements.{All-weaker}
 use Rattle.rn_outline.specs.declared.file_parts.Part.{Part}
 use Rattle.rn_outline.specs.declared.file_parts.PartKind.{PartKind}
 use Rattle.rn_outline.specs.declared.file_parts.PartKind.TheVariants.{Define, Start, Reference, Parent, External, Include, Grammar}
-use Rattle.rn_plan.specs.declared.given.Lifting.{Lifting}
+use Rattle.rn_scopes.specs.declared.given.Lifting.{Lifting}
 use Rattle.rn_lift.specs.LiftedModules.{IsModuleOf}
 use Rattle.rn_lift.specs.StandIns.{IsEdit, IsIncluded, IsLifted, Modules, Scopes, StandsForKind}
 use Rattle.rn_lift.specs.declared.edits.Edit.{Edit}

@@ -1,10 +1,10 @@
 -- Modules of places and modules that bring in scopes, added one by one.
 use Rattle.std.proofs.Common.{◌≡◌, ℕ, ◌<◌, ◌+◌, List, [], ◌∷◌, ◌++◌, All, length, get_or, take, subst, below_more}
 use Rattle.std.proofs.lemmas.List.Elements.{All-more, All-weaker}
-use Rattle.rn_plan.specs.ScopeEntries.{entry_of}
-use Rattle.rn_plan.specs.declared.scopes.Plan.{Plan}
-use Rattle.rn_plan.specs.declared.scopes.Scope.{Scope}
-use Rattle.rn_plan.specs.declared.units.Units.{Units}
+use Rattle.rn_scopes.specs.ScopeEntries.{entry_of}
+use Rattle.rn_scopes.specs.declared.scopes.Plan.{Plan}
+use Rattle.rn_scopes.specs.declared.scopes.Scope.{Scope}
+use Rattle.rn_scopes.specs.declared.units.Units.{Units}
 use Rattle.rn_lift.specs.LiftedModules.{BringsIn}
 use Rattle.rn_lift.specs.inside.Planned.{HasPlace, IsBrought, IsModuleOfPlace}
 use Rattle.rn_lift.specs.declared.lifted.LiftedModule.{LiftedModule}

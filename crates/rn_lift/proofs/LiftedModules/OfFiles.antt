@@ -6,15 +6,15 @@ use Rattle.std.proofs.lemmas.Option.{slice_get_within, slice_get-map, get_or_fro
 use Rattle.std.proofs.lemmas.List.Elements.{All-weaker, All-contains, All-get_or}
 use Rattle.std.proofs.lemmas.List.Sorted.{All-permutation, Contains-permutation}
 use Rattle.rn_outline.specs.Links.{targets_of}
-use Rattle.rn_plan.specs.UnitFiles.{HasTargets, files_of}
-use Rattle.rn_plan.specs.declared.lift_fault.LiftFault.{LiftFault}
-use Rattle.rn_plan.specs.declared.given.Given.{Given}
-use Rattle.rn_plan.specs.declared.given.Lifting.{Lifting}
-use Rattle.rn_plan.specs.declared.scopes.PlacedUnit.{PlacedUnit}
-use Rattle.rn_plan.specs.declared.scopes.Plan.{Plan}
-use Rattle.rn_plan.specs.declared.scopes.Scope.{Scope}
-use Rattle.rn_plan.specs.declared.units.Unit.{Unit}
-use Rattle.rn_plan.specs.declared.units.Units.{Units}
+use Rattle.rn_scopes.specs.UnitFiles.{HasTargets, files_of}
+use Rattle.rn_scopes.specs.declared.lift_fault.LiftFault.{LiftFault}
+use Rattle.rn_scopes.specs.declared.given.Given.{Given}
+use Rattle.rn_scopes.specs.declared.given.Lifting.{Lifting}
+use Rattle.rn_scopes.specs.declared.scopes.PlacedUnit.{PlacedUnit}
+use Rattle.rn_scopes.specs.declared.scopes.Plan.{Plan}
+use Rattle.rn_scopes.specs.declared.scopes.Scope.{Scope}
+use Rattle.rn_scopes.specs.declared.units.Unit.{Unit}
+use Rattle.rn_scopes.specs.declared.units.Units.{Units}
 use Rattle.rn_lift.specs.LiftedModules.{AreMadeOfFiles, BringsIn, HasModule, HasScope, IsMadeOfFile, IsModuleOf}
 use Rattle.rn_lift.specs.inside.Planned.{HasPlace, IsBrought, IsModuleOfPlace, basis_of, IsModuleOfSomePlace, IsPlanned, IsPlannedScope}
 use Rattle.rn_lift.specs.declared.lifted.Basis.{Basis}

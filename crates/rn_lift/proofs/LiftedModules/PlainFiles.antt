@@ -9,8 +9,8 @@ use Rattle.rn_outline.specs.Links.{targets_of}
 use Rattle.rn_outline.specs.declared.file_parts.Part.{Part}
 use Rattle.rn_outline.specs.declared.file_parts.PartKind.{PartKind}
 use Rattle.rn_outline.specs.declared.file_parts.PartKind.TheVariants.{Define, Start, Reference, Parent, External, Include, Grammar}
-use Rattle.rn_plan.specs.declared.lift_fault.LiftFault.{LiftFault}
-use Rattle.rn_plan.specs.declared.given.Lifting.{Lifting}
+use Rattle.rn_scopes.specs.declared.lift_fault.LiftFault.{LiftFault}
+use Rattle.rn_scopes.specs.declared.given.Lifting.{Lifting}
 use Rattle.rn_lift.specs.Edits.{edited_bytes}
 use Rattle.rn_lift.specs.LiftedModules.{AreMadeOfFiles, HasModule, HasScope, IsKept, IsKeptKind, IsMadeOfFile, IsModuleOf, IsPlain, KeepsText}
 use Rattle.rn_lift.specs.StandIns.{IsEdit, Modules, Scopes, StandsForKind}

@@ -3,9 +3,9 @@ use Rattle.std.proofs.Common.{◌≡◌, ℕ, ◌<◌, List, [], ◌∷◌, ◌+
 use Rattle.std.specs.Prelude.{slice_get, string_bytes}
 use Rattle.std.proofs.lemmas.Option.{slice_get_read}
 use Rattle.rn_text.specs.Literals.{literal_bytes}
-use Rattle.rn_plan.specs.ScopeEntries.{module_of}
-use Rattle.rn_plan.specs.declared.scopes.PlacedUnit.{PlacedUnit}
-use Rattle.rn_plan.specs.declared.scopes.Scope.{Scope}
+use Rattle.rn_scopes.specs.ScopeEntries.{module_of}
+use Rattle.rn_scopes.specs.declared.scopes.PlacedUnit.{PlacedUnit}
+use Rattle.rn_scopes.specs.declared.scopes.Scope.{Scope}
 use Rattle.rn_lift.specs.inside.Planned.{IsPlaceOf, IsPlanned, IsPlannedScope, IsScopeOf}
 use Rattle.rn_lift.specs.StandIns.{IsIncluded, IsLifted}
 use Rattle.rn_lift.specs.declared.lifted.Basis.{Basis}

@@ -1,13 +1,13 @@
 -- Modules and scopes as they are planned.
 use Rattle.std.specs.Prelude.{◌≡◌, ◌≢◌, ℕ, ◌⊎◌, List, All, Contains, map, Option, Some, slice_get, string_bytes}
-use Rattle.rn_plan.specs.UnitFiles.{target_of}
-use Rattle.rn_plan.specs.ScopeEntries.{entry_of}
-use Rattle.rn_plan.specs.declared.given.Given.{Given}
-use Rattle.rn_plan.specs.declared.scopes.PlacedUnit.{PlacedUnit}
-use Rattle.rn_plan.specs.declared.scopes.Plan.{Plan}
-use Rattle.rn_plan.specs.declared.scopes.Scope.{Scope}
-use Rattle.rn_plan.specs.declared.units.Unit.{Unit}
-use Rattle.rn_plan.specs.declared.units.Units.{Units}
+use Rattle.rn_scopes.specs.UnitFiles.{target_of}
+use Rattle.rn_scopes.specs.ScopeEntries.{entry_of}
+use Rattle.rn_scopes.specs.declared.given.Given.{Given}
+use Rattle.rn_scopes.specs.declared.scopes.PlacedUnit.{PlacedUnit}
+use Rattle.rn_scopes.specs.declared.scopes.Plan.{Plan}
+use Rattle.rn_scopes.specs.declared.scopes.Scope.{Scope}
+use Rattle.rn_scopes.specs.declared.units.Unit.{Unit}
+use Rattle.rn_scopes.specs.declared.units.Units.{Units}
 use Rattle.rn_outline.specs.declared.file_parts.Part.{Part}
 use Rattle.rn_outline.specs.declared.file_parts.PartKind.{PartKind}
 use Rattle.rn_lift.specs.LiftedModules.{BringsIn, IsModuleOf}

@@ -2,7 +2,7 @@ use Rattle.std.proofs.Common.{◌≡◌, ◌⊎◌, inr, None, arith}
 use Rattle.std.specs.Prelude.{Contains}
 use Rattle.std.proofs.lemmas.List.{take_all}
 use Rattle.std.proofs.Common.{All, List, subst, ◌∙◌}
-use Rattle.rn_plan.specs.declared.scopes.Scope.{Scope}
+use Rattle.rn_scopes.specs.declared.scopes.Scope.{Scope}
 use Rattle.rn_lift.specs.inside.Planned.{IsBrought}
 use Rattle.rn_lift.specs.declared.lifted.LiftedModule.{LiftedModule}
 use Rattle.rn_lift.proofs.ListsWithOneMore.{all_there, still_there}

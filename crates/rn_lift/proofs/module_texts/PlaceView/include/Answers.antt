@@ -1,6 +1,6 @@
 use Rattle.std.proofs.Common.{List, ℕ, ap, ◌∙◌, string_bytes}
 use Rattle.rn_text.specs.Literals.{literal_bytes}
-use Rattle.rn_plan.specs.UnitFiles.{target_of}
+use Rattle.rn_scopes.specs.UnitFiles.{target_of}
 use Rattle.rn_lift.proofs.StandIns.OfPlaces.{included}
 use Rattle.rn_lift.proofs.module_texts.PlaceView.include.Goals as goal
 
