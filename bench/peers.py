@@ -2,11 +2,12 @@
 """Times rnc-merge and rnc-flat on real schemas, beside jing, trang and sha256sum; and rnc-flat beside `rnc-merge print` of the same set, and
 `rnc-flat --rng` beside rnc-flat.
 
-bench/peers.py PROGRAM FLAT FOLDER [--old PROGRAM] [--size N] [--rounds N]: PROGRAM is rnc-merge, FLAT is rnc-flat. The packages of the schemas are
+bench/peers.py PROGRAM FLAT FOLDER [--old PROGRAM] [--size N] [--rounds N] [--xml]: PROGRAM is rnc-merge, FLAT is rnc-flat. The packages of the schemas are
 unpacked in FOLDER where they aren't there yet (as tests/real-schemas/compare.py does), and schemas in the XML syntax are put into the compact one by
 trang. Each set is what `rnc-flat --bundle` writes of the driver. Then two tables, with medians of the rounds (5), all commands in each round:
 real schemas, with jing -i -c -s and trang on the driver as they lie on disk; and what rnc-flat takes beside `print`, for these and for sets of
-files of the shapes of bench/run.py at N (32,000).
+files of the shapes of bench/run.py at N (32,000). A third one is of real schemas in the XML syntax: rnc-flat and jing -i -s on the driver as it lies
+on disk, and rnc-flat on what it printed of that, as XML and as text. --xml makes this one alone.
 
 Needs Debian's jing and trang, and a Java compiler. Start-up is part of each time, and shown first.
 """
@@ -29,6 +30,15 @@ CLOSURES = {
     "slides (docbook-xsl-ns)": "docbook-xsl-ns/usr/share/xml/docbook/stylesheet/docbook-xsl-ns/slides/schema/relaxng/slides.rng",
     "EPUB 3 (epubcheck)": "epubcheck/usr/share/java/epubcheck.schemas/com/adobe/epubcheck/schema/30/epub-nav-30.rnc",
     "DocBook 5 (docbook5-xml)": "docbook5-xml/usr/share/xml/docbook/schema/rng/5.0/docbookxi.rnc",
+}
+IN_XML = {
+    "TEI (xmlcopyeditor)": "xmlcopyeditor/usr/share/xmlcopyeditor/rng/tei_all.rng",
+    "DocBook (xmlcopyeditor)": "xmlcopyeditor/usr/share/xmlcopyeditor/rng/docbook.rng",
+    "slides (docbook-xsl-ns)": "docbook-xsl-ns/usr/share/xml/docbook/stylesheet/docbook-xsl-ns/slides/schema/relaxng/slides.rng",
+    "domain snapshots (libvirt0)": "libvirt0/usr/share/libvirt/schemas/domainsnapshot.rng",
+    "answers (pacemaker-common)": "pacemaker-common/usr/share/pacemaker/api/api-result-2.25.rng",
+    "XHTML (xhtml-relaxng)": "xhtml-relaxng/usr/share/xml/xhtml-relaxng/xhtml.rng",
+    "patches (libzypp-common)": "libzypp-common/usr/share/zypp/schema/yum/patch.rng",
 }
 JING = ["jing", "-i", "-c", "-s"]
 
@@ -129,19 +139,42 @@ def show_flat(rows):
             ended(printed) + ended(flat) + ended(xml))
 
 
+def show_syntaxes(words, room):
+    """Real schemas in the XML syntax."""
+    folder = words.folder.resolve()
+    packages.fetch(folder, sorted({path.split("/")[0] for path in IN_XML.values()}))
+    table("schema:", "KB of XML", "rnc-flat, s", "jing, s", "jing / rnc-flat", "peak / jing's", "the printed text, s", "its XML, s", "XML / text", "memory, XML / text")
+    for name, path in IN_XML.items():
+        driver = str(folder / "packages" / path)
+        printed = {"text": f"{room}/printed.rnc", "xml": f"{room}/printed.rng"}
+        for kind, to in printed.items():
+            with open(to, "wb") as out:
+                subprocess.run([words.flat, *(["--rng"] if kind == "xml" else []), driver], stdout=out, check=True)
+        commands = {kind: ([words.flat, to],) for kind, to in printed.items()}
+        commands |= {"flat": ([words.flat, driver],), "jing": (["jing", "-i", "-s", driver],)}
+        got = measuring.rounds(commands, words.rounds)
+        flat, jing, text, xml = (got[it] for it in ("flat", "jing", "text", "xml"))
+        row(name, os.path.getsize(printed["xml"]) // 1000, seconds(flat), seconds(jing), f"{jing.times(flat):.1f}", f"{flat.peak / jing.peak:.2f}", seconds(text),
+            seconds(xml), f"{xml.times(text):.2f}", f"{xml.peak / text.peak:.2f}")
+
+
 def main():
     parser = argparse.ArgumentParser()
     parser.add_argument("program", type=os.path.abspath)
     parser.add_argument("flat", type=os.path.abspath)
     parser.add_argument("folder", type=pathlib.Path)
     parser.add_argument("--old", type=os.path.abspath)
+    parser.add_argument("--xml", action="store_true")
     parser.add_argument("--size", type=int, default=32000)
     parser.add_argument("--rounds", type=int, default=measuring.ROUNDS)
     words = parser.parse_args()
     with tempfile.TemporaryDirectory() as room:
         show_start_up(words, room)
+        if words.xml:
+            return show_syntaxes(words, room)
         rows = show_closures(words, drivers(words.folder.resolve(), room), room)
         show_flat(rows + list(generated(words, room)))
+        show_syntaxes(words, room)
 
 
 if __name__ == "__main__":

@@ -94,7 +94,7 @@ for literal in there.rnc broken.rnc out/none.rnc out/there.rnc; do
     ln -sn ../out map/out 2>/dev/null
     refused "out of the map: $literal" 1 "$outside" "http://m/$literal" --root in --map http://m/=map
 done
-refused 'missing below the map' 3 'map/none.rnc: no such file' http://m/none.rnc --root in --map http://m/=map
+refused 'missing below the map' 3 'map/none.rnc: no such file; http://m/none.rnc leads there' http://m/none.rnc --root in --map http://m/=map
 # a root folder that isn't there: nothing is read
 row 'no root folder' 3 '' 'rnc-flat: error: none: no such file\n' --root none out/there.rnc
 row 'an argument outside' 1 '' "rnc-flat: error: out/there.rnc: $outside\n" --root in out/there.rnc
@@ -146,7 +146,7 @@ untimed=$program
 program=$work/timed
 refused 'a pipe' 3 "in/p.fifo: $special" p.fifo
 refused 'a pipe and a root' 3 "in/p.fifo: $special" p.fifo --root in
-refused 'a pipe that a map finds' 3 "in/p.fifo: $special" http://m/p.fifo --map http://m/=in
+refused 'a pipe that a map finds' 3 "in/p.fifo: $special; http://m/p.fifo leads there" http://m/p.fifo --map http://m/=in
 refused 'a link to a pipe' 3 "in/link.fifo: $special" link.fifo
 refused 'a device' 3 "/dev/zero: $special" /dev/zero
 refused 'a terminal' 3 "/dev/ptmx: $special" /dev/ptmx

@@ -306,6 +306,105 @@ row map_names 0 'http://example.org/schema/deep/text.rnc local/deep/text.rnc\nht
     --list --map http://example.org/schema/=local main.rnc
 row no_map 1 '' 'main.rnc:1:9: error: no map says where http://example.org/schema/name.rnc lies\n    include "http://example.org/schema/name.rnc"\n            ^\n' main.rnc
 
+# A prefix is any front of a URI, with what comes behind it below the folder; the last `=` ends it. What a file at a URN refers to is
+# looked for beside the file.
+room prefixes
+mkdir -p lib
+printf 'include "urn:x:lib:name.rnc"\nstart = name\n' >main.rnc
+printf 'include "text.rnc"\nname = element name { t }\n' >lib/name.rnc
+printf 't = text\n' >lib/text.rnc
+printf 'include "http://example.org/v=1/name.rnc"\nstart = name\n' >equals.rnc
+row map_urn 0 "$mapped" '' --map urn:x:lib:=lib main.rnc
+row map_front 0 "$mapped" '' --map urn:x:l=none --map urn:x:lib:=lib/ main.rnc
+row map_urn_names 0 'lib/text.rnc lib/text.rnc\nmain.rnc main.rnc\nurn:x:lib:name.rnc lib/name.rnc\n' '' --list --map urn:x:lib:=lib main.rnc
+row map_equals 0 "$mapped" '' --map http://example.org/v=1/=lib equals.rnc
+printf 'include "urn:x:lib:../name.rnc"\nstart = name\n' >above.rnc
+printf 'include "urn:x:lib:.."\nstart = name\n' >dots.rnc
+bad map_above 1 'dots.rnc:1:9: error: `..` leads above the topmost folder\n    include "urn:x:lib:.."\n            ^\n' --map urn:x:lib:=lib dots.rnc
+bad map_above_urn 1 'above.rnc:1:9: error: `..` leads above the topmost folder\n    include "urn:x:lib:../name.rnc"\n            ^\n' --map urn:x:lib:=lib above.rnc
+bad map_missing 3 'main.rnc:1:9: error: none/name.rnc: no such file; urn:x:lib:name.rnc leads there\n    include "urn:x:lib:name.rnc"\n            ^\n' --map urn:x:lib:=none main.rnc
+
+# ---- catalogs: OASIS XML Catalogs 1.1, sections 6 and 7
+room catalogs
+# catalog FILE ENTRIES: a catalog of these entries, given with printf's escapes
+catalog() {
+    printf '<catalog xmlns="urn:oasis:names:tc:entity:xmlns:xml:catalog">%b</catalog>\n' "$2" >"$1"
+}
+# found NAME ENTRIES: main.rnc prints by a catalog of these entries
+found() {
+    catalog "$1.xml" "$2"
+    row "catalog_$1" 0 "$mapped" '' --catalog "$1.xml" main.rnc
+}
+mkdir -p lib other
+printf 'include "urn:x:lib:name.rnc"\nstart = name\n' >main.rnc
+printf 'include "text.rnc"\nname = element name { t }\n' >lib/name.rnc
+printf 't = text\n' >lib/text.rnc
+printf 'name = element name { empty }\n' >other/name.rnc
+uri='<uri name="urn:x:lib:name.rnc" uri="lib/name.rnc"/>'
+wrong='uri="other/name.rnc"/>'
+found uri "$uri"
+found rewrite '<rewriteURI uriStartString="urn:x:lib:" rewritePrefix="lib/"/>'
+found suffix '<uriSuffix uriSuffix=":name.rnc" uri="lib/name.rnc"/>'
+found system '<system systemId="urn:x:lib:name.rnc" uri="lib/name.rnc"/>'
+found rewrite_system '<rewriteSystem systemIdStartString="urn:x:lib:" rewritePrefix="lib/"/>'
+found suffix_system '<systemSuffix systemIdSuffix=":name.rnc" uri="lib/name.rnc"/>'
+found stem '<rewriteURI uriStartString="urn:x:lib:na" rewritePrefix="lib/na"/>'
+found first "$uri<uri name=\"urn:x:lib:name.rnc\" $wrong"
+found longest '<rewriteURI uriStartString="urn:x:" rewritePrefix="other/"/><rewriteURI uriStartString="urn:x:lib:" rewritePrefix="lib/"/><rewriteURI uriStartString="urn:x" rewritePrefix="none/"/>'
+found whole_first '<rewriteURI uriStartString="urn:x:lib:" rewritePrefix="other/"/>'"$uri"
+found front_first '<uriSuffix uriSuffix=":name.rnc" '"$wrong"'<rewriteURI uriStartString="urn:x:lib:" rewritePrefix="lib/"/>'
+found uri_first '<system systemId="urn:x:lib:name.rnc" '"$wrong"'<uriSuffix uriSuffix="name.rnc" uri="lib/name.rnc"/>'
+found public '<public publicId="urn:x:lib:name.rnc" '"$wrong<delegatePublic publicIdStartString=\"urn:\" catalog=\"none.xml\"/>$uri"
+found base '<group xml:base="lib/" prefer="system"><uri name="urn:x:lib:name.rnc" uri="name.rnc"/></group>'
+found bases '<group xml:base="other/"><uri xml:base="../lib/" name="urn:x:lib:name.rnc" uri="name.rnc"/></group>'
+found escapes '<uri name="urn:x:lib:name.rnc" uri="lib/%6eame.rnc"/>'
+found other '<x:uri xmlns:x="urn:x" name="urn:x:lib:name.rnc" '"$wrong$uri"
+catalog lib/next.xml '<uri name="urn:x:lib:name.rnc" uri="name.rnc"/>'
+catalog lib/wrong.xml '<uri name="urn:x:lib:name.rnc" uri="../other/name.rnc"/>'
+found next '<nextCatalog catalog="lib/next.xml"/><nextCatalog catalog="lib/wrong.xml"/>'
+found next_last '<nextCatalog catalog="lib/wrong.xml"/>'"$uri"
+found next_again '<nextCatalog catalog="lib/next.xml"/><nextCatalog catalog="lib/next.xml"/>'
+row catalog_order 0 "$mapped" '' --catalog uri.xml --catalog lib/wrong.xml main.rnc
+row catalog_behind_another 0 "$mapped" '' --catalog suffix.xml --catalog lib/wrong.xml main.rnc
+row catalog_behind_maps 0 'default namespace = ""\nstart = name\nname = element name { empty }\n' '' --map urn:x:lib:=other --catalog uri.xml main.rnc
+printf 'include "name.rnc"\nstart = name\n' >written.rnc
+catalog written.xml '<uri name="name.rnc" uri="lib/name.rnc"/>'
+row catalog_as_written 0 "$mapped" '' --catalog written.xml written.rnc
+{
+    printf '<?xml version="1.0"?>\n<!DOCTYPE catalog PUBLIC "-//OASIS//DTD Entity Resolution XML Catalog V1.0//EN"\n  "http://www.oasis-open.org/committees/entity/release/1.0/catalog.dtd">\n'
+    cat uri.xml
+} >doctype.xml
+row catalog_doctype 0 "$mapped" '' --catalog doctype.xml main.rnc
+row catalog_root 0 "$mapped" '' --root . --catalog uri.xml main.rnc
+
+printf 'include "urn:x:a"\ninclude "urn:y:b"\nstart = text\n' >uses.rnc
+catalog elsewhere.xml '<uri name="urn:x:a" uri="http://h/a"/><delegateURI uriStartString="urn:y:" catalog="d.xml"/>'
+bad catalog_elsewhere 1 "uses.rnc:1:9: error: a catalog leads from urn:x:a to http://h/a, and nothing is fetched\n    include \"urn:x:a\"\n            ^\nuses.rnc:2:9: error: a catalog leaves urn:y:b to file://$PWD/d.xml, which must be given by --catalog\n    include \"urn:y:b\"\n            ^\n" \
+    --catalog elsewhere.xml uses.rnc
+catalog missing.xml '<uri name="urn:x:lib:name.rnc" uri="none.rnc"/>'
+bad catalog_missing_file 3 'main.rnc:1:9: error: none.rnc: no such file; urn:x:lib:name.rnc leads there\n    include "urn:x:lib:name.rnc"\n            ^\n' --catalog missing.xml main.rnc
+bad catalog_missing 3 'rnc-flat: error: none.xml: no such file\n' --catalog none.xml main.rnc
+mkfifo pipe.xml
+bad catalog_pipe 3 'rnc-flat: error: pipe.xml: this is not a regular file\n' --catalog pipe.xml main.rnc
+bad catalog_device 3 'rnc-flat: error: /dev/zero: this is not a regular file\n' --catalog /dev/zero main.rnc
+printf '<catalog xmlns="urn:oasis:names:tc:entity:xmlns:xml:catalog">\n  <nextCatalog catalog="none.xml"/>\n</catalog>\n' >next-missing.xml
+bad catalog_next_missing 3 'next-missing.xml:2:25: error: none.xml: no such file\n      <nextCatalog catalog="none.xml"/>\n                            ^\n' --catalog next-missing.xml main.rnc
+printf '<catalog xmlns="urn:oasis:names:tc:entity:xmlns:xml:catalog">\n  <nextCatalog catalog="../loop.xml"/>\n</catalog>\n' >lib/loop.xml
+catalog loop.xml '<nextCatalog catalog="lib/loop.xml"/>'
+bad catalog_loop 1 'lib/loop.xml:2:25: error: the catalog leads back to itself by nextCatalog\n      <nextCatalog catalog="../loop.xml"/>\n                            ^\n' --catalog loop.xml main.rnc
+printf '<catalog xmlns="urn:oasis:names:tc:entity:xmlns:xml:catalog">\n  <nextCatalog catalog="http://h/c.xml"/>\n</catalog>\n' >far.xml
+bad catalog_far 1 'far.xml:2:25: error: the catalog http://h/c.xml is no file, and nothing is fetched\n      <nextCatalog catalog="http://h/c.xml"/>\n                            ^\n' --catalog far.xml main.rnc
+printf '<html/>\n' >html.xml
+bad catalog_html 1 'html.xml:1:1: error: this is no catalog: its root is not `catalog` of the namespace urn:oasis:names:tc:entity:xmlns:xml:catalog\n    <html/>\n    ^\n' --catalog html.xml main.rnc
+printf '<catalog xmlns="urn:oasis:names:tc:entity:xmlns:xml:catalog">\n  <rewriteUri/>\n</catalog>\n' >element.xml
+bad catalog_element 1 'element.xml:2:3: error: this is no element of a catalog, or not here\n      <rewriteUri/>\n      ^\n' --catalog element.xml main.rnc
+printf '<catalog xmlns="urn:oasis:names:tc:entity:xmlns:xml:catalog">\n  <uri name="urn:x"/>\n</catalog>\n' >attribute.xml
+bad catalog_attribute 1 'attribute.xml:2:3: error: the attribute `uri` is missing\n      <uri name="urn:x"/>\n      ^\n' --catalog attribute.xml main.rnc
+printf '<!DOCTYPE catalog [\n]>\n<catalog/>\n' >subset.xml
+begins catalog_subset 1 'subset.xml:1:1: error: a document type declaration is not read' --catalog subset.xml main.rnc
+printf '<catalog xmlns="urn:oasis:names:tc:entity:xmlns:xml:catalog">\n</a>\n' >open.xml
+begins catalog_open 1 'open.xml:2:1: error: this closes a, but catalog is open' --catalog open.xml main.rnc
+
 # ---- the whole language
 room language
 printf 'start = element doc { external "address.rnc" }\n' >external.rnc
@@ -397,6 +496,8 @@ printf 'start = element doc { name }\nname |= text\nname &= empty\n' >mixed.rnc
 row mixed_methods 1 '' 'mixed.rnc:2:1: error: `name` is combined by |= here, and by &= in mixed.rnc:3:1\n    name |= text\n    ^\n' mixed.rnc
 printf 'include "common.rnc" {\n  other = empty\n}\nstart = element doc { name }\n' >override.rnc
 row override 1 '' 'override.rnc:2:3: error: `other` replaces nothing: common.rnc, which is included in override.rnc:1:9, does not define it\n      other = empty\n      ^\n' override.rnc
+printf 'include "common.rnc" {\n  nmes = empty\n  names = empty\n}\nstart = element doc { name }\n' >override.rnc
+row override_near 1 '' 'override.rnc:3:3: error: `names` replaces nothing: common.rnc, which is included in override.rnc:1:9, does not define it: did you mean `name`?\n      names = empty\n      ^\noverride.rnc:2:3: error: `nmes` replaces nothing: common.rnc, which is included in override.rnc:1:9, does not define it\n      nmes = empty\n      ^\n' override.rnc
 printf 'start = element doc { name? }\n' >undefined.rnc
 row undefined 1 '' 'undefined.rnc:1:23: error: `name` is not defined\n    start = element doc { name? }\n                          ^\n' undefined.rnc
 printf 'include "uses.rnc"\nstart = element doc { text }\n' >reach.rnc
@@ -620,8 +721,12 @@ row listed_controls 0 'c%0Ad%1B.rnc c?d?.rnc\n' '' --list "$controls"
 rm "$controls"
 long=$(printf 'n%.0s' $(seq 201))
 printf 'start = text\n' >"$long"
+ln -s . linked
 bad long_name 1 "rnc-flat: error: $long: the name of the file, below the root folder, is longer than 200 bytes\n" "$long"
 bad root_missing 3 'rnc-flat: error: nowhere: no such file\n' --root nowhere a.rnc
+bad root_is_a_file 3 'rnc-flat: error: a.rnc: this is not a folder\n' --root a.rnc a.rnc
+bad root_is_a_device 3 'rnc-flat: error: /dev/null: this is not a folder\n' --root /dev/null a.rnc
+row root_is_a_link 0 'a.rnc linked/a.rnc\n' '' --root linked --list linked/a.rnc
 
 # Nothing is read outside of the root folder: what is there may be at fault.
 printf 'start = element a { , }\n' >outside.rnc

@@ -11,6 +11,7 @@ compare.py PROGRAM files COUNT [SEED]: trees of two to six files in folders, wit
 inherit, nested grammars and parents. Where jing takes the main file, the program must print it, jing must take what is printed, the simplified forms
 that jing makes of both must be the same up to names (simplified.py), both must be valid for the same documents, and what is printed must be printed
 again. Where jing refuses the tree by another rule than section 7, the program must refuse it. The tree of a seed is the same whatever COUNT is.
+The tree is also written with some of its files in the XML syntax (writing_xml.py): the same must be printed, or the tree refused again.
 Each printed text is written in the XML syntax too (--rng): where jing takes the one it must take the other, with the same simplified form byte for
 byte and the same valid documents, and what trang makes of the XML must be printed as the same text. What lxml says of the documents is counted.
 
@@ -101,6 +102,12 @@ def make_set(program, folder, seed):
     return damage, "", program.run(given=program.bundle(path))[0] == printed
 
 
+def write_tree(folder, texts):
+    for path, text in texts.items():
+        os.makedirs(os.path.dirname(f"{folder}/{path}"), exist_ok=True)
+        write(f"{folder}/{path}", text)
+
+
 def write_documents(folder, drawn):
     for at, document in enumerate(drawn):
         write(f"{folder}/{at:02}.xml", meaning.xml(document))
@@ -159,12 +166,15 @@ class Told:
 
     def __init__(self, program, folder, seed):
         rng, tree, self.damage = trees.drawn(seed)
-        for path, text in trees.written(rng, tree).items():
-            os.makedirs(os.path.dirname(f"{folder}/files/{path}"), exist_ok=True)
-            write(f"{folder}/files/{path}", text)
+        write_tree(f"{folder}/files", trees.written(rng, tree))
+        texts = trees.mixed(random.Random(f"{seed} mixed"), tree)
+        self.in_xml = sum(text.startswith("<?xml") for text in texts.values())
+        write_tree(f"{folder}/mixed", texts)
         self.folder, self.main, self.printed = folder, f"{folder}/files/{tree.paths[0]}", f"{folder}/printed.rnc"
         self.xml = None
         printed, self.refusal = program.run(self.main)
+        of_mixed, refusal = program.run(f"{folder}/mixed/{tree.paths[0]}")
+        self.of_mixed = "" if of_mixed == printed and bool(refusal) == bool(self.refusal) else refusal.split("\n")[0] or "printed otherwise"
         self.stays = True
         if not self.refusal:
             write_bytes(self.printed, printed)
@@ -182,7 +192,9 @@ class Told:
         return re.sub(r"`[^`]*`|[^ ,]*\.rnc(:\d+:\d+)?", "..", sentence) or "printed"
 
     def difference(self, answers):
-        """What differs between the program and jing, or nothing."""
+        """What differs between the program and jing, or between its answers to the files in either syntax, or nothing."""
+        if self.of_mixed:
+            return f"with files in the XML syntax: {self.of_mixed}"
         is_good, rest = answers[self.paths()[0]]
         if self.refusal:
             is_early = self.damage in ("Except", "ExceptReference") and "excepted" in self.kind()
@@ -236,6 +248,7 @@ def compare_files(program, seeds, room):
     for it in told:
         tally.update(it.of_lxml(answers))
         is_good, rest = answers[it.paths()[0]]
+        tally["files written in the XML syntax too"] += it.in_xml
         difference = it.difference(answers)
         if difference:
             differences.append(f"{it.folder}: {difference}")

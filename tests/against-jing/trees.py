@@ -7,6 +7,7 @@ import urllib.parse
 
 import meaning
 import writing
+import writing_xml
 from drawing import BAD_PATTERNS, Drawer, declared, kinds_of, weighted, without_start
 from schema import Chain, Data, Define, Div, External, Include, Nested, Parent, Ref, Type, Word
 
@@ -381,3 +382,17 @@ def drawn(seed):
 def written(rng, tree):
     """The texts of a tree's files by their paths."""
     return {path: TreeWriter(rng, path).module(file) for path, file in tree.files.items()}
+
+
+def mixed(rng, tree):
+    """The texts of a tree's files by their paths: some in the XML syntax, the others in the compact one."""
+    texts = {}
+    for path, file in tree.files.items():
+        compact = TreeWriter(rng, path)
+        texts[path] = compact.module(file)
+        if rng.random() < 0.6:
+            try:
+                texts[path] = writing_xml.XmlWriter(rng, file, compact.link).file()
+            except writing_xml.NotWritable:
+                continue
+    return texts

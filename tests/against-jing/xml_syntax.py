@@ -26,7 +26,7 @@ def not_the_same(program, room, paths):
     """Of schemas in the XML syntax those that trang puts into another compact text, with why: what rnc-flat prints of that must be the text that they
     were made of, which lies beside them."""
     back = {path: path.with_suffix(".back.rnc") for path in paths}
-    statuses = [line for line in java(room, TRANG, [f"{path}\t{to}" for path, to in back.items()]) if line.startswith("status ")]
+    statuses = java(room, TRANG, [f"{path}\t{to}" for path, to in back.items()])
     found = {}
     for (path, to), status in zip(back.items(), statuses, strict=True):
         if status != "status 0":

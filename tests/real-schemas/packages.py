@@ -86,7 +86,7 @@ def translated(room, folder, paths):
         place.mkdir(parents=True, exist_ok=True)
         made[path] = place / (path.stem + ".rnc")
     missing = [path for path in paths if not made[path].exists()]
-    answers = [line for line in java(room, HERE / "Trang.java", [f"{path}\t{made[path]}" for path in missing]) if line.startswith("status ")]
+    answers = java(room, HERE / "Trang.java", [f"{path}\t{made[path]}" for path in missing])
     for path, answer in zip(missing, answers, strict=True):
         if answer != "status 0":
             made[path].unlink(missing_ok=True)

@@ -8,8 +8,8 @@ import re
 
 # What is said at a proof file that names what the wrong body took away, or that is for another form of body: that speaks of no contract.
 NAME_LOST = re.compile(r"has no field|is not in scope|has no `|was not admitted|rattle does not read")
-# The name of a goal of the contract: of what the function ensures, or of an invariant of a loop.
-OF_CONTRACT = re.compile(r"`(?:[\w:+]*-)?(?:returns|loop-)|`[\w:+-]*-(?:preserved|init)\b")
+# The name of a goal of the contract: of what the function ensures, or of an invariant of a loop or of a type.
+OF_CONTRACT = re.compile(r"`(?:[\w:+]*-)?(?:returns|loop-|invariant_of-)|`[\w:+-]*-(?:preserved|init)\b")
 # What is said of a function that has no open goal: it is proved, or what it calls stands on a hole. (A closure is proved where its callers give
 # what it asks, and is told so.)
 PROVED = re.compile(r"proved|no holes|depends on a hole in ")

@@ -1,6 +1,9 @@
 // What is answered where files in memory are asked for, as rows write them.
 use crate::comparing::{expect_text, same_for};
-use rn_files::{Asked, Map, MemoryFiles, Reading, ReadingFault, Sources, read_files, read_sources};
+use rn_files::{
+    Asked, CatalogRefusal, CatalogsFault, Map, MemoryFiles, Reading, ReadingFault, Sources,
+    read_catalogs, read_files, read_sources,
+};
 use std::alloc::{AllocError, Global};
 use std::process::Abort;
 
@@ -10,7 +13,8 @@ struct Given {
     files: MemoryFiles,
     words: Vec<String>,
     root: Option<String>,
-    maps: Vec<Map>,
+    maps: Vec<Vec<Map>>,
+    catalogs: Vec<String>,
     input: Option<String>,
 }
 
@@ -28,6 +32,7 @@ fn take_line(
         "link" => given.files.add_link(alloc, first, second),
         "swapped" => given.files.add_swapped(alloc, first, second),
         "word" => Ok(given.words.push(String::from_str(alloc, first)?)?),
+        "catalog" => Ok(given.catalogs.push(String::from_str(alloc, first)?)?),
         "root" => {
             given.root = Some(String::from_str(alloc, first)?);
             Ok(())
@@ -42,10 +47,11 @@ fn take_line(
 
 /// Adds a map to what a row gives.
 fn add_map(alloc: Global, given: &mut Given, prefix: &str, folder: &str) -> Result<(), AllocError> {
-    let prefix = String::from_str(alloc, prefix)?;
-    let folder = String::from_str(alloc, folder)?;
-    given.maps.push(Map { prefix, folder })?;
-    Ok(())
+    let map = Map::below(alloc, prefix, folder)?;
+    match given.maps.first_mut() {
+        Some(group) => Ok(group.push(map)?),
+        None => Ok(()),
+    }
 }
 
 /// What a row gives, read from its lines. The current folder is `/w`.
@@ -54,7 +60,8 @@ fn given_of(alloc: Global, lines: &str) -> Result<Given, AllocError> {
         files: MemoryFiles::new(alloc, "/w")?,
         words: Vec::new(alloc),
         root: None,
-        maps: Vec::new(alloc),
+        maps: vec![in alloc; Vec::new(alloc)]?,
+        catalogs: Vec::new(alloc),
         input: None,
     };
     for line in lines.split('\n') {
@@ -99,9 +106,28 @@ pub fn answer_line(
     }
 }
 
+/// Adds what catalogs say to what a row gives.
+fn add_groups(given: &mut Given, groups: Vec<Vec<Map>>) -> Result<(), AllocError> {
+    for group in groups {
+        given.maps.push(group)?;
+    }
+    Ok(())
+}
+
+/// The refusal of a catalog.
+fn refusal_line(alloc: Global, refusal: &CatalogRefusal) -> Result<String, AllocError> {
+    let (shown, at, kind) = (&refusal.shown, refusal.at, &refusal.kind);
+    format!(in alloc; "{shown} {at:?} {kind:?}")
+}
+
 /// What is answered for a row.
 fn answer_for_row(alloc: Global, lines: &str) -> Result<String, AllocError> {
-    let given = given_of(alloc, lines)?;
+    let mut given = given_of(alloc, lines)?;
+    match read_catalogs(alloc, &given.files, given.catalogs.as_slice()) {
+        Ok(groups) => add_groups(&mut given, groups)?,
+        Err(CatalogsFault::Refused(refusal)) => return refusal_line(alloc, &refusal),
+        Err(CatalogsFault::Memory) => return Err(AllocError),
+    }
     answer_line(alloc, read_sources(alloc, &given.files, &asked_by(&given)))
 }
 

@@ -4,6 +4,8 @@
 #[cfg(test)]
 mod asked_files;
 #[cfg(test)]
+mod catalogs;
+#[cfg(test)]
 mod comparing;
 #[cfg(test)]
 mod line_breaks;

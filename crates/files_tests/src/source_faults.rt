@@ -16,7 +16,7 @@ fn references_have_their_faults(rt: HostRuntime) {
 static PIPES: [(&str, &str); 2] = [
     (
         "file\t/w/a.rnc\tinclude 'p' include 'l' include 'http://h/p'\npipe\t/w/p\tx = text\nlink\t/w/l\t/w/p\nword\ta.rnc\nmap\thttp://h\t/w",
-        "Text { file: 0, at: 8 } Target { path: \"p\", fault: Special };Text { file: 0, at: 20 } Target { path: \"l\", fault: Special };Text { file: 0, at: 32 } Target { path: \"p\", fault: Special };",
+        "Text { file: 0, at: 8 } Target { path: \"p\", fault: Special };Text { file: 0, at: 20 } Target { path: \"l\", fault: Special };Text { file: 0, at: 32 } Mapped { uri: \"http://h/p\", path: \"p\", fault: Special };",
     ),
     (
         "pipe\t/w/p\tstart = text\nword\tp\nword\t./p",
@@ -91,7 +91,7 @@ fn files_that_are_swapped_are_refused(rt: HostRuntime) {
 static MAPPED: [(&str, &str); 4] = [
     (
         "file\t/w/r/a.rnc\tinclude 'http://h/b.rnc' include 'http://h/none.rnc' include 'http://h/d/none.rnc'\nlink\t/w/m/b.rnc\t/w/c.rnc\nfile\t/w/c.rnc\tstart = ^\nlink\t/w/m/d\t/w\nword\tr/a.rnc\nroot\tr\nmap\thttp://h\t/w/m",
-        "Text { file: 0, at: 8 } Outside;Text { file: 0, at: 33 } Target { path: \"m/none.rnc\", fault: Missing };Text { file: 0, at: 61 } Outside;",
+        "Text { file: 0, at: 8 } Outside;Text { file: 0, at: 33 } Mapped { uri: \"http://h/none.rnc\", path: \"m/none.rnc\", fault: Missing };Text { file: 0, at: 61 } Outside;",
     ),
     (
         "file\t/w/r/a.rnc\tinclude 'http://h/b.rnc' include 'urn:x:c'\nlink\t/w/l\t/w/m\nfile\t/w/m/b.rnc\t\nfile\t/w/c.rnc\t\nword\tr/a.rnc\nroot\tr\nmap\thttp://h\tl\nmap\turn:x:c\tc.rnc",

@@ -123,10 +123,10 @@ fn standard_input_is_read(rt: HostRuntime) {
     each_answered(&rt, &STANDARD_INPUT);
 }
 
-/// Maps: the longest prefix counts, by whole segments; a reference in a file that a map found is resolved against its URI.
+/// Maps: the longest prefix counts, which is any front; a reference in a file that a map found is resolved against its URI.
 static MAPS: [(&str, &str); 2] = [
     (
-        "file\t/w/a.rnc\tinclude 'http://h/s/b.rnc' include 'http://h/sx/c.rnc'\nfile\t/m/b.rnc\tinclude '../t/d.rnc'\nfile\t/n/sx/c.rnc\t\nfile\t/n/t/d.rnc\t\nword\ta.rnc\nmap\thttp://h\t/n\nmap\thttp://h/s\t/m",
+        "file\t/w/a.rnc\tinclude 'http://h/s/b.rnc' include 'http://h/sx/c.rnc'\nfile\t/m/b.rnc\tinclude '../t/d.rnc'\nfile\t/m/x/c.rnc\t\nfile\t/n/t/d.rnc\t\nword\ta.rnc\nmap\thttp://h\t/n\nmap\thttp://h/s\t/m",
         "a.rnc [1, 2] http://h/s/b.rnc [3] http://h/sx/c.rnc [] http://h/t/d.rnc [] roots [0]",
     ),
     (

@@ -6,10 +6,9 @@ use Rattle.std.specs.Prelude.{All, IfNone, MatchOption, OnSome, is_some, string_
 use Rattle.std.proofs.lemmas.Bool.{false≢true}
 use Rattle.std.proofs.lemmas.List.{take_all}
 use Rattle.std.proofs.lemmas.List.Elements.{All-weaker}
-use Rattle.rn_files.specs.Maps.{IsLongest}
+use Rattle.rn_files.specs.Maps.{Groups, IsFoundFolder}
 use Rattle.rn_files.specs.ReadableFiles.{Gives, IsFrontOfRead, IsKept, IsReadAt, IsReadFor, IsReadSource, IsReadWithin, IsTextRead, Leads, LiesInMap, MayBeRead, Reads, lies_in}
 use Rattle.rn_files.specs.inside.Following.{IsFollowed, IsFront, IsRootOf}
-use Rattle.rn_files.specs.declared.maps.Map.{Map}
 use Rattle.rn_files.specs.declared.root_folder.RootFolder.{RootFolder}
 use Rattle.rn_files.specs.declared.sources.Asked.{Asked}
 use Rattle.rn_files.specs.declared.sources.SourceFile.{SourceFile}
@@ -103,7 +102,7 @@ followed_weaker reads others weaker f h =
     (IsTextRead others uri path text f.written) (kept_weaker reads others weaker text f.written) (text_weaker reads others weaker uri path text f.written) h
 
 -- what is read below a root folder is read below the folder that is asked for
-pub read_within : (leads : Leads) (gives : Gives) (named : List ℕ) (root : RootFolder) (maps : List Map) → IsRootOf leads named root → (u p b : List ℕ)
+pub read_within : (leads : Leads) (gives : Gives) (named : List ℕ) (root : RootFolder) (maps : Groups) → IsRootOf leads named root → (u p b : List ℕ)
     → IsReadAt leads gives (Some (string_bytes root.real)) maps u p b → IsReadWithin leads gives (Some named) maps u p b
 read_within leads gives named root maps (folder, led, same) u p b h =
     let P : List ℕ → Type 0 = λ r. IsReadAt leads gives (Some r) maps u p b in (folder, led, subst P same h)
@@ -130,12 +129,12 @@ within_some leads gives asked fs named root some found h =
     (read_within leads gives named.now root maps found) h)
 
 -- a file that lies in what a map names
-pub in_map : (leads : Leads) (maps : List Map) (uri real named rest folder : List ℕ) → IsLongest maps uri named rest → leads named folder
+pub in_map : (leads : Leads) (maps : Groups) (uri real named folder : List ℕ) → IsFoundFolder maps uri named → leads named folder
     → lies_in folder real ≡ true → LiesInMap leads maps uri real
-in_map leads maps uri real named rest folder longest led lies = (named, rest, folder, longest, led, lies)
+in_map leads maps uri real named folder found led lies = (named, folder, found, led, lies)
 
 -- it may be read
-pub may_in_map : (leads : Leads) (root : Option (List ℕ)) (maps : List Map) (uri path real : List ℕ) → LiesInMap leads maps uri real
+pub may_in_map : (leads : Leads) (root : Option (List ℕ)) (maps : Groups) (uri path real : List ℕ) → LiesInMap leads maps uri real
     → MayBeRead leads root maps uri path real
 may_in_map leads None maps uri path real lies = tt
 may_in_map leads (Some root) maps uri path real lies = inr (inr lies)

@@ -3,8 +3,7 @@
 use Rattle.std.specs.Prelude.{◌≡◌, ◌⊎◌, ℕ, Bool, true, List, [], ◌++◌, nat_eq, codes, is_some, take, All, Option, Some, None, string_bytes, ⊤, if◌then◌else◌}
 use Rattle.std.specs.List.{ends_with}
 use Rattle.std.specs.Option.{option_copied}
-use Rattle.rn_files.specs.Maps.{IsLongest, behind_prefix}
-use Rattle.rn_files.specs.declared.maps.Map.{Map}
+use Rattle.rn_files.specs.Maps.{Groups, IsFoundFolder, behind_prefix}
 use Rattle.rn_files.specs.declared.source_reading.ReadingFault.{ReadingFault}
 use Rattle.rn_files.specs.declared.source_reading.ReadingFault.TheVariants.{Faults, Memory}
 use Rattle.rn_files.specs.declared.sources.Asked.{Asked}
@@ -36,22 +35,22 @@ lies_in folder path = is_some (behind_prefix path folder)
 abbrev pub with_slash : List ℕ → List ℕ
 with_slash folder = if ends_with nat_eq folder (codes "/") then folder else folder ++ codes "/"
 
--- the file lies in the folder of the map that finds the URI: the one with the longest prefix
-abbrev pub LiesInMap : Leads → List Map → List ℕ → List ℕ → Type 0
-LiesInMap leads maps uri real = (named rest folder : List ℕ) × IsLongest maps uri named rest × leads named folder × (lies_in folder real ≡ true)
+-- the file lies in the folder of the map that finds the URI, which a word or an entry of a catalog names
+abbrev pub LiesInMap : Leads → Groups → List ℕ → List ℕ → Type 0
+LiesInMap leads maps uri real = (named folder : List ℕ) × IsFoundFolder maps uri named × leads named folder × (lies_in folder real ≡ true)
 
 -- what was opened at a path, where a URI led, and has this real path, may be read. The root folder is a real path with a slash at its
 -- end; without one each file may be read
-abbrev pub MayBeRead : Leads → Option (List ℕ) → List Map → List ℕ → List ℕ → List ℕ → Type 0
+abbrev pub MayBeRead : Leads → Option (List ℕ) → Groups → List ℕ → List ℕ → List ℕ → Type 0
 MayBeRead leads None maps uri path real = ⊤
 MayBeRead leads (Some root) maps uri path real = (path ≡ codes "-") ⊎ ((lies_in root real ≡ true) ⊎ LiesInMap leads maps uri real)
 
 -- these bytes were read: what was opened at the path has them, and may be read
-abbrev pub IsReadAt : Leads → Gives → Option (List ℕ) → List Map → Reads
+abbrev pub IsReadAt : Leads → Gives → Option (List ℕ) → Groups → Reads
 IsReadAt leads gives root maps uri path bytes = (real : List ℕ) × gives path real bytes × MayBeRead leads root maps uri path real
 
 -- these bytes were read, where a root folder may be asked for by a path
-abbrev pub IsReadWithin : Leads → Gives → Option (List ℕ) → List Map → Reads
+abbrev pub IsReadWithin : Leads → Gives → Option (List ℕ) → Groups → Reads
 IsReadWithin leads gives None maps uri path bytes = IsReadAt leads gives None maps uri path bytes
 IsReadWithin leads gives (Some named) maps uri path bytes =
     (folder : List ℕ) × leads named folder × IsReadAt leads gives (Some (with_slash folder)) maps uri path bytes

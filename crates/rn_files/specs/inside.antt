@@ -5,6 +5,7 @@ pub mod FileUris
 pub mod Uris
 pub mod UriReferences
 pub mod Maps
+pub mod CatalogEntries
 pub mod Sources
 pub mod Following
 pub mod ShownPaths

@@ -4,7 +4,7 @@ ghost use Rattle.rn_files.specs.ReadableFiles.{LiesInMap, MayBeRead, lies_in};
 ghost use Rattle.rn_files.specs.inside.Following.{root_path};
 
 use crate::files::{FileFault, Files, Kinds, STANDARD_INPUT};
-use crate::maps::{Map, behind_prefix, longest_prefix};
+use crate::maps::{Map, behind_prefix, found_folder};
 use crate::root_folder::{RootFolder, with_slash};
 use crate::walk::{FoundBy, FoundFile};
 use std::alloc::{AllocError, Global};
@@ -12,8 +12,8 @@ use std::alloc::{AllocError, Global};
 /// Where files are looked for.
 #[derive(Clone, Copy)]
 pub struct Ways<'a> {
-    /// Where URIs lie.
-    pub maps: &'a [Map],
+    /// Where URIs lie, in groups: each counts where those before it don't know a URI.
+    pub maps: &'a [Vec<Map>],
     /// The real path of the current folder.
     pub current: &'a str,
     /// The root folder, if one is given.
@@ -33,14 +33,14 @@ fn lies_in(folder: &str, path: &str) -> bool
 fn lies_in_map<F: Files>(
     alloc: Global,
     files: &F,
-    maps: &[Map],
+    maps: &[Vec<Map>],
     uri: &str,
     real: &str,
 ) -> Result<bool, AllocError>
     ensures { IfOk result (λ lies. lies ≡ true
         → LiesInMap (F.leads files.now) maps.now uri.now real.now) }
 {
-    let Some((folder, _)) = longest_prefix(maps, uri) else {
+    let Some(folder) = found_folder(maps, uri) else {
         return Ok(false);
     };
     match files.real_path(alloc, folder, Kinds::Any) {
@@ -122,8 +122,8 @@ pub fn is_hidden<F: Files>(
     let Some(root) = ways.root else {
         return Ok(false);
     };
-    match longest_prefix(ways.maps, uri) {
-        Some((folder, _)) => {
+    match found_folder(ways.maps, uri) {
+        Some(folder) => {
             let rest = path.strip_prefix(folder).unwrap_or(path);
             passes_link(alloc, files, folder, rest.strip_prefix('/').unwrap_or(rest))
         }

@@ -15,6 +15,9 @@ pub enum FileFault {
     /// The path leads to a folder.
     #[error("this is a folder")]
     Folder,
+    /// The path leads to a file, where a folder is asked for.
+    #[error("this is not a folder")]
+    NoFolder,
     /// The path leads to a pipe, a device or a socket, where only a regular file is read.
     #[error("this is not a regular file")]
     Special,

@@ -2,18 +2,17 @@
 ghost use Rattle.std.specs.Prelude.{◌≡◌, ◌<◌, ◌≤◌, All, IfOk, IsNone, is_some, string_bytes, vec_len};
 ghost use Rattle.rn_modset.specs.Limits.{max_text};
 ghost use Rattle.rn_files.specs.inside.Following.{EntriesGrow, IsFollowed, IsReadBy};
-ghost use Rattle.rn_files.specs.inside.UriReferences.{StandsFor};
 ghost use Rattle.rn_outline.specs.Links.{is_link};
 
 use crate::bounds::{Ways, may_be_read};
 use crate::escapes::file_uri;
 use crate::file_texts::{FileText, MAX_TEXT, text_of};
 use crate::files::{FileFault, Files, Kinds, STANDARD_INPUT};
-use crate::links::{LinkFault, found_at, tried_place};
-use crate::maps::locate;
+use crate::links::{LinkFault, Tried, found_at, tried_place};
+use crate::locations::locate;
+use crate::meant_uris::meant_uri;
 use crate::source_faults::FaultPlace;
 use crate::sources::Written;
-use crate::uri_references::{ReferenceFault, resolve_below};
 use crate::walk::{Followed, FoundBy, FoundFile, MAX_SOURCES, Walk};
 use rn_outline::{Outline, Part, PartKind};
 use std::alloc::{AllocError, Global};
@@ -134,20 +133,13 @@ pub fn enter_words<F: Files>(
     for (number, word) in words.iter().enumerate() {
         let place = FaultPlace::Word(number);
         let entered = enter_word(alloc, files, ways, walk, word.as_str(), place);
-        if let Some(root) = walk.note_link(place, String::new(alloc), entered)? {
+        if let Some(root) = walk.note_link(place, Tried::nothing(alloc), entered)? {
             if !roots.contains(&root) {
                 roots.push(root)?;
             }
         }
     }
     Ok(roots)
-}
-
-/// The URI that a reference in a file with the URI `base` stands for.
-fn target_uri(alloc: Global, base: &str, literal: &str) -> Result<String, LinkFault>
-    ensures { IfOk result (λ uri. StandsFor base.now literal.now (string_bytes uri)) }
-{
-    Ok(resolve_below(alloc, base, literal)?)
 }
 
 /// Enters the file to which a URI leads that a file refers to.
@@ -177,7 +169,7 @@ fn enter_link<F: Files>(
 ) -> Result<usize, LinkFault>
     ensures { EntriesGrow walk.old walk.new }
 {
-    let uri = target_uri(alloc, from.uri.as_str(), literal)?;
+    let uri = meant_uri(alloc, ways.maps, from, literal)?;
     if let Some(led) = walk.led.get(uri.as_str()) {
         return *led;
     }
@@ -187,22 +179,21 @@ fn enter_link<F: Files>(
     led
 }
 
-/// The path or the URI that was tried for a reference that led to no file; nothing where it led to one, or stands for no
-/// URI.
+/// What was tried for a reference that led to no file; nothing where it led to one, or stands for no URI.
 fn tried_by(
     alloc: Global,
     ways: &Ways<'_>,
     from: &FoundFile,
     literal: &str,
     entered: &Result<usize, LinkFault>,
-) -> Result<String, AllocError> {
+) -> Result<Tried, AllocError> {
     if entered.is_ok() {
-        return Ok(String::new(alloc));
+        return Ok(Tried::nothing(alloc));
     }
-    match resolve_below(alloc, from.uri.as_str(), literal) {
-        Ok(uri) => tried_place(alloc, ways, from, uri.as_str()),
-        Err(ReferenceFault::Memory) => Err(AllocError),
-        Err(_) => Ok(String::new(alloc)),
+    match meant_uri(alloc, ways.maps, from, literal) {
+        Ok(uri) => tried_place(alloc, ways, from, uri),
+        Err(LinkFault::Memory) => Err(AllocError),
+        Err(_) => Ok(Tried::nothing(alloc)),
     }
 }
 
@@ -335,8 +326,8 @@ fn follow<F: Files>(
     let found = walk.entries[file].found.clone()?;
     let place = walk.entries[file].place;
     let answer = read_file(alloc, files, ways, &found, kinds_at(place));
-    let shown = found.shown.clone()?;
-    match walk.note_link(place, shown, answer)? {
+    let tried = Tried::at(found.shown.clone()?);
+    match walk.note_link(place, tried, answer)? {
         Some(bytes) => follow_text(alloc, files, ways, walk, file, found, bytes.as_slice()),
         None => Ok(faulty_file(alloc, found, String::new(alloc), None)),
     }

@@ -9,6 +9,9 @@
 #![tactic(auto)]
 
 mod bounds;
+mod catalog_faults;
+mod catalog_maps;
+mod catalogs;
 mod escapes;
 mod file_names;
 mod file_texts;
@@ -17,7 +20,9 @@ mod following;
 pub mod laws;
 mod line_breaks;
 mod links;
+mod locations;
 mod maps;
+mod meant_uris;
 mod memory_files;
 mod module_names;
 mod paths;
@@ -32,14 +37,17 @@ mod uri_references;
 mod uris;
 mod walk;
 
+pub use catalog_faults::{CatalogRefusal, CatalogRefusalKind, CatalogsFault};
+pub use catalogs::read_catalogs;
 pub use file_texts::MAX_TEXT;
 pub use files::{FileFault, Files, Kinds, OpenedFile, STANDARD_INPUT};
 pub use line_breaks::Position;
-pub use maps::Map;
+pub use maps::{Map, MapPlace, MapTarget, UriPart};
 pub use memory_files::MemoryFiles;
 pub use module_names::module_name;
 pub use paths::remove_dot_segments;
 pub use positions::{line_of, position};
+pub use rn_catalog::CatalogFaultKind;
 pub use source_faults::{FaultPlace, SourceFault, SourceFaultKind};
 pub use source_reading::{
     LinkedFiles, Reading, ReadingFault, read_files, read_sources, sources_of,

@@ -5,7 +5,8 @@ ghost use Rattle.rn_files.specs.inside.Following.{IsFoundAt};
 
 use crate::bounds::{Ways, is_hidden, may_be_read};
 use crate::files::{FileFault, Files, Kinds};
-use crate::maps::{Location, Map, locate};
+use crate::locations::{Location, led_elsewhere, locate};
+use crate::maps::Map;
 use crate::module_names::module_name;
 use crate::shown_paths::shown_path;
 use crate::source_faults::SourceFaultKind;
@@ -34,12 +35,27 @@ pub enum LinkFault {
 }
 
 impl LinkFault {
-    /// The fault of a reference as it is kept, with the path or the URI that was tried.
-    pub fn kind_at_reference(self, tried: String) -> SourceFaultKind {
-        match self {
-            LinkFault::File(fault) => SourceFaultKind::Target { path: tried, fault },
-            LinkFault::Reference(ReferenceFault::Scheme) => SourceFaultKind::Unmapped(tried),
-            fault => fault.kind(),
+    /// The fault of a reference as it is kept, with what was tried.
+    pub fn kind_at_reference(self, tried: Tried) -> SourceFaultKind {
+        let Tried { uri, place } = tried;
+        match (self, uri) {
+            (LinkFault::File(fault), Some(uri)) => SourceFaultKind::Mapped {
+                uri,
+                path: place,
+                fault,
+            },
+            (LinkFault::File(fault), None) => SourceFaultKind::Target { path: place, fault },
+            (LinkFault::Reference(ReferenceFault::Scheme), _) => SourceFaultKind::Unmapped(place),
+            (LinkFault::Reference(ReferenceFault::Elsewhere), Some(uri)) => {
+                SourceFaultKind::Elsewhere { uri, target: place }
+            }
+            (LinkFault::Reference(ReferenceFault::Delegated), Some(uri)) => {
+                SourceFaultKind::Delegated {
+                    uri,
+                    catalog: place,
+                }
+            }
+            (fault, _) => fault.kind(),
         }
     }
 
@@ -81,6 +97,28 @@ impl From<ReferenceFault> for LinkFault {
     }
 }
 
+/// What was tried for a reference that led to no file.
+#[derive(Drop)]
+pub struct Tried {
+    /// The URI, if a map finds it.
+    pub uri: Option<String>,
+    /// The path where the file was looked for, as it is told to people; or the URI where no path is known, or that to which
+    /// a map leads. Empty where nothing was tried.
+    pub place: String,
+}
+
+impl Tried {
+    /// Nothing was tried.
+    pub fn nothing(alloc: Global) -> Tried {
+        Tried::at(String::new(alloc))
+    }
+
+    /// A place was tried that no map found.
+    pub fn at(place: String) -> Tried {
+        Tried { uri: None, place }
+    }
+}
+
 /// How the file at a real path is told to people, where another file refers to it: as a real path where that one is told
 /// by a path from the topmost folder, else from the current folder.
 fn shown_beside(
@@ -96,18 +134,24 @@ fn shown_beside(
     }
 }
 
-/// What is told to people of a reference that led to no file: the path where the file of the URI was looked for, or the
-/// URI where no path is known.
+/// What was tried for a reference that stands for a URI and led to no file.
 pub fn tried_place(
     alloc: Global,
     ways: &Ways<'_>,
     from: &FoundFile,
-    uri: &str,
-) -> Result<String, AllocError> {
-    match locate(alloc, ways.maps, uri) {
-        Ok(leads) => shown_beside(alloc, ways, from, leads.path.as_str()),
+    uri: String,
+) -> Result<Tried, AllocError> {
+    if let Some(place) = led_elsewhere(alloc, ways.maps, uri.as_str())? {
+        let uri = Some(uri);
+        return Ok(Tried { uri, place });
+    }
+    match locate(alloc, ways.maps, uri.as_str()) {
+        Ok(leads) => Ok(Tried {
+            place: shown_beside(alloc, ways, from, leads.path.as_str())?,
+            uri: if leads.is_mapped { Some(uri) } else { None },
+        }),
         Err(ReferenceFault::Memory) => Err(AllocError),
-        Err(_) => String::from_str(alloc, uri),
+        Err(_) => Ok(Tried::at(uri)),
     }
 }
 
@@ -121,7 +165,7 @@ fn found_by(leads: &Location) -> FoundBy {
 }
 
 /// Where a URI lies.
-fn location(alloc: Global, maps: &[Map], uri: &str) -> Result<Location, LinkFault>
+fn location(alloc: Global, maps: &[Vec<Map>], uri: &str) -> Result<Location, LinkFault>
     ensures { IfOk result (λ leads.
         IsLocation maps.now uri.now (string_bytes leads.path) leads.is_mapped) }
 {

@@ -1,34 +1,73 @@
-// Where the files lie that URIs stand for.
-ghost use Rattle.std.specs.Prelude.{◌≡◌, ◌==◌, false, IfOk, MatchOption, codes, nat_eq, slice_index, string_bytes};
+// Maps of URIs, as words and catalogs give them, and the one that counts for a URI.
+ghost use Rattle.std.specs.Prelude.{◌≡◌, ◌==◌, MatchOption, IfOk, IfSome, codes, nat_eq, slice_index, string_bytes};
 ghost use Rattle.std.specs.List.{ends_with};
 ghost use Rattle.std.specs.Option.{option_copied, option_map};
-ghost use Rattle.rn_files.specs.Paths.{has_dots};
-ghost use Rattle.percent_encoding.specs.Percent.{percent_decode};
-ghost use Rattle.rn_files.specs.Maps.{HasNoMap, IsFilePath, IsLongest, IsLocation, behind, behind_prefix, below, has_no_host, is_file_scheme, is_whole};
+ghost use Rattle.rn_files.specs.Maps.{HasNoMap, HasNoMapIn, IsFolderOf, IsFound, IsFoundFolder, IsLongest, ahead, behind, behind_prefix, is_whole, left_by, rest_of_whole};
 ghost use Rattle.rn_files.specs.inside.Maps.{chosen};
 
-use crate::paths::has_dots;
-use crate::uri_references::{ReferenceFault, no_memory};
-use crate::uris::split;
-use percent_encoding::{DecodeError, percent_decode_str};
 use std::alloc::{AllocError, Global};
 
-/// URIs that begin with the prefix, by whole segments, lie in the folder.
-#[derive(Debug, Drop, PartialEq, Eq)]
-pub struct Map {
-    /// The front of a URI, as it is spelled.
-    pub prefix: String,
-    /// The path of a folder.
-    pub folder: String,
+/// What of a URI a map speaks of.
+#[derive(Clone, Copy, Debug, PartialEq, Eq)]
+pub enum UriPart {
+    /// Its front. What comes behind it in the URI is kept.
+    Front,
+    /// All of it.
+    Whole,
+    /// Its end.
+    End,
 }
 
-/// Where a URI leads.
-#[derive(Debug, Drop, PartialEq, Eq)]
-pub struct Location {
-    /// Where the file lies.
-    pub path: String,
-    /// Whether a map found it.
-    pub is_mapped: bool,
+/// A folder, and what is put behind it.
+#[derive(Clone, Debug, Drop, PartialEq, Eq)]
+pub struct MapPlace {
+    /// The path of the folder. What the map finds lies below it.
+    pub folder: String,
+    /// The front of the path below it; all of that but for what is kept of a URI.
+    pub stem: String,
+}
+
+/// Where a map leads.
+#[derive(Clone, Debug, Drop, PartialEq, Eq)]
+pub enum MapTarget {
+    /// To files.
+    Files(MapPlace),
+    /// To the URI that begins so, which is no file's.
+    Elsewhere(String),
+    /// To this other catalog, which alone is to know.
+    Delegated(String),
+}
+
+/// Where URIs lie that have such a part.
+#[derive(Clone, Debug, Drop, PartialEq, Eq)]
+pub struct Map {
+    /// Which part of a URI it is.
+    pub part: UriPart,
+    /// The part, as it is spelled in the URI.
+    pub text: String,
+    /// Where they lie.
+    pub target: MapTarget,
+}
+
+impl Map {
+    ghost use Rattle.rn_files.specs.Maps.{IsFolderOf};
+
+    /// The map of the URIs that begin with the prefix to what lies below the folder. Refused only for want of memory.
+    pub fn below(alloc: Global, prefix: &str, folder: &str) -> Result<Map, AllocError>
+        ensures part { IfOk result (λ m. m.part ≡ UriPart.Front) }
+        ensures text { IfOk result (λ m. string_bytes m.text ≡ prefix.now) }
+        ensures folder { IfOk result (λ m. IsFolderOf m.target folder.now) }
+    {
+        let place = MapPlace {
+            folder: String::from_str(alloc, folder)?,
+            stem: String::new(alloc),
+        };
+        Ok(Map {
+            part: UriPart::Front,
+            text: String::from_str(alloc, prefix)?,
+            target: MapTarget::Files(place),
+        })
+    }
 }
 
 /// Whether a text begins with a slash.
@@ -46,7 +85,7 @@ pub fn ends_with_slash(text: &str) -> bool
 }
 
 /// Whether what is left behind a prefix begins where a segment ends.
-fn is_whole(prefix: &str, rest: &str) -> bool
+pub fn is_whole(prefix: &str, rest: &str) -> bool
     ensures { result ≡ is_whole prefix.now rest.now }
 {
     rest.is_empty() || begins_with_slash(rest) || ends_with_slash(prefix)
@@ -75,14 +114,40 @@ pub fn behind_prefix<'u>(uri: &'u str, prefix: &str) -> Option<&'u str>
     }
 }
 
-/// Of two folders with what their maps leave of a URI, the one that leaves less; the first of equals.
+/// What comes before the end of a URI.
+fn rest_ahead<'u>(uri: &'u str, end: &str) -> Option<&'u str>
+    ensures { option_copied result ≡ ahead uri.now end.now }
+{
+    uri.strip_suffix(end)
+}
+
+/// What is left where a URI is this text: nothing.
+fn rest_of_whole(uri: &str, text: &str) -> Option<&'static str>
+    ensures { option_copied result ≡ rest_of_whole uri.now text.now }
+{
+    if uri == text { Some("") } else { None }
+}
+
+/// What a map leaves of a URI that has its part.
+fn left_by<'u>(map: &Map, uri: &'u str) -> Option<&'u str>
+    ensures { option_copied result ≡ left_by uri.now map.now }
+{
+    let text = map.text.as_str();
+    match map.part {
+        UriPart::Front => rest_behind(uri, text),
+        UriPart::Whole => rest_of_whole(uri, text),
+        UriPart::End => rest_ahead(uri, text),
+    }
+}
+
+/// Of two maps with what they leave of a URI, the one that leaves less; the first of equals.
 fn choose<'m, 'u>(
-    best: Option<(&'m str, &'u str)>,
-    folder: &'m str,
+    best: Option<(&'m Map, &'u str)>,
+    map: &'m Map,
     rest: Option<&'u str>,
-) -> Option<(&'m str, &'u str)>
+) -> Option<(&'m Map, &'u str)>
     ensures { option_map (λ b. (b.0.now, b.1.now)) result
-        ≡ chosen (option_map (λ b. (b.0.now, b.1.now)) best.entry) folder.now
+        ≡ chosen (option_map (λ b. (b.0.now, b.1.now)) best.entry) map.now
         (option_copied rest.entry) }
 {
     let Some(rest) = rest else {
@@ -91,139 +156,60 @@ fn choose<'m, 'u>(
     match best {
         Some((first, least)) => {
             if rest.len() < least.len() {
-                Some((folder, rest))
+                Some((map, rest))
             } else {
                 Some((first, least))
             }
         }
-        None => Some((folder, rest)),
+        None => Some((map, rest)),
     }
 }
 
-/// The folder of the longest prefix that the URI begins with, the first of them among equals, and what comes behind it.
-pub fn longest_prefix<'m, 'u>(maps: &'m [Map], uri: &'u str) -> Option<(&'m str, &'u str)>
+/// The map that leaves least of the URI, the first of them among equals, and what it leaves.
+fn longest<'m, 'u>(maps: &'m [Map], uri: &'u str) -> Option<(&'m Map, &'u str)>
     ensures { MatchOption result (HasNoMap maps.now uri.now)
         (λ b. IsLongest maps.now uri.now b.0.now b.1.now) }
 {
-    let mut best: Option<(&'m str, &'u str)> = None;
+    let mut best: Option<(&'m Map, &'u str)> = None;
     for map in maps {
-        let rest = behind_prefix(uri, map.prefix.as_str());
-        best = choose(best, map.folder.as_str(), rest);
+        let rest = left_by(map, uri);
+        best = choose(best, map, rest);
     }
     best
 }
 
-/// Whether an escape stands for a byte that no file's name holds: 0 or `/`.
-fn has_unnamed(text: &str) -> bool {
-    text.contains("%00") || text.contains("%2F") || text.contains("%2f")
-}
-
-/// The text with each escape replaced by its byte.
-fn decoded(alloc: Global, text: &str) -> Result<String, ReferenceFault>
-    ensures { IfOk result (λ found. string_bytes found ≡ percent_decode text.now) }
+/// The map that finds a URI, and what it leaves of it: of the first group that has such a map, the one that leaves least
+/// (XML Catalogs 1.1, 7.2.2: the longest match).
+pub fn found_map<'m, 'u>(groups: &'m [Vec<Map>], uri: &'u str) -> Option<(&'m Map, &'u str)>
+    ensures { MatchOption result (HasNoMapIn groups.now uri.now)
+        (λ b. IsFound groups.now uri.now b.0.now b.1.now) }
 {
-    match percent_decode_str(text).decode_utf8(alloc) {
-        Ok(found) => found.into_owned(alloc).map_err(|_| ReferenceFault::Memory),
-        Err(DecodeError::OutOfMemory) => Err(ReferenceFault::Memory),
-        Err(_) => Err(ReferenceFault::Encoding),
-    }
-}
-
-/// The path with each escape replaced by its byte. No segment of it is `.` or `..`: those of a URI are removed before,
-/// and what is left of them leads above.
-fn decode(alloc: Global, text: &str) -> Result<String, ReferenceFault>
-    ensures decoded { IfOk result (λ found. string_bytes found ≡ percent_decode text.now) }
-    ensures plain { IfOk result (λ found. has_dots (string_bytes found) ≡ false) }
-{
-    if has_unnamed(text) {
-        return Err(ReferenceFault::Byte);
-    }
-    let found = decoded(alloc, text)?;
-    if has_dots(found.as_str()) {
-        return Err(ReferenceFault::Above);
-    }
-    Ok(found)
-}
-
-/// The folder, a slash where neither side has one, and the path.
-fn put_below(alloc: Global, folder: &str, rest: &str, path: &str) -> Result<String, AllocError>
-    ensures { IfOk result (λ whole. path.now ≡ percent_decode rest.now
-        → string_bytes whole ≡ below folder.now rest.now) }
-{
-    let mut whole = String::from_str(alloc, folder)?;
-    if !is_whole(folder, rest) {
-        whole.push_str("/")?;
-    }
-    whole.push_str(path)?;
-    Ok(whole)
-}
-
-/// The folder, and below it the decoded rest of the URI.
-fn path_below(alloc: Global, folder: &str, rest: &str) -> Result<String, ReferenceFault>
-    ensures below { IfOk result (λ path. string_bytes path ≡ below folder.now rest.now) }
-    ensures plain { IfOk result (λ _. has_dots (percent_decode rest.now) ≡ false) }
-{
-    let path = decode(alloc, rest)?;
-    put_below(alloc, folder, rest, path.as_str()).map_err(no_memory)
-}
-
-/// Whether a scheme is `file`.
-fn is_file_scheme(scheme: Option<&str>) -> bool
-    ensures { result ≡ is_file_scheme (option_copied scheme.entry) }
-{
-    match scheme {
-        Some(scheme) => scheme.eq_ignore_ascii_case("file"),
-        None => false,
-    }
-}
-
-/// Whether an authority names no host.
-fn has_no_host(authority: Option<&str>) -> bool
-    ensures { result ≡ has_no_host (option_copied authority.entry) }
-{
-    match authority {
-        Some(authority) => authority.is_empty(),
-        None => true,
-    }
-}
-
-/// The path of a URI that no map knows.
-fn file_path(alloc: Global, uri: &str) -> Result<String, ReferenceFault>
-    ensures { IfOk result (λ path. IsFilePath uri.now (string_bytes path)) }
-{
-    let parts = split(uri);
-    if !is_file_scheme(parts.scheme) {
-        return Err(ReferenceFault::Scheme);
-    }
-    if !has_no_host(parts.authority) {
-        return Err(ReferenceFault::Host);
-    }
-    if !parts.path.starts_with('/') {
-        return Err(ReferenceFault::Relative);
-    }
-    decode(alloc, parts.path)
-}
-
-/// Where the URI lies: below the folder of the longest prefix, or, where no map has one, at the path of a `file` URI
-/// without a host (RFC 8089). Escapes are decoded; where a segment then is `.` or `..`, the fault is `Above`.
-pub fn locate(alloc: Global, maps: &[Map], uri: &str) -> Result<Location, ReferenceFault>
-    ensures { IfOk result (λ place.
-        IsLocation maps.now uri.now (string_bytes place.path) place.is_mapped) }
-{
-    match longest_prefix(maps, uri) {
-        Some((folder, rest)) => {
-            let path = path_below(alloc, folder, rest)?;
-            Ok(Location {
-                path,
-                is_mapped: true,
-            })
+    let mut rest = groups;
+    while let [group, others @ ..] = rest {
+        if let Some(found) = longest(group.as_slice(), uri) {
+            return Some(found);
         }
-        None => {
-            let path = file_path(alloc, uri)?;
-            Ok(Location {
-                path,
-                is_mapped: false,
-            })
-        }
+        rest = others;
+    }
+    None
+}
+
+/// The folder of the map that finds a URI; `None` where no map does, or where it leads to no files.
+pub fn found_folder<'m>(groups: &'m [Vec<Map>], uri: &str) -> Option<&'m str>
+    ensures { IfSome result (λ folder. IsFoundFolder groups.now uri.now folder.now) }
+{
+    match found_map(groups, uri) {
+        Some((map, _)) => folder_of(map),
+        None => None,
+    }
+}
+
+/// The folder below which all lies that a map finds; `None` where it leads to no files.
+fn folder_of(map: &Map) -> Option<&str>
+    ensures { IfSome result (λ folder. IsFolderOf map.now.target folder.now) }
+{
+    match &map.target {
+        MapTarget::Files(place) => Some(place.folder.as_str()),
+        MapTarget::Elsewhere(_) | MapTarget::Delegated(_) => None,
     }
 }

@@ -2,8 +2,9 @@
 ghost use Rattle.std.specs.Prelude.{◌≡◌, IfOk, string_bytes};
 ghost use Rattle.rn_files.specs.ReadableFiles.{with_slash};
 
+use crate::files::{FileFault, Files, Kinds};
 use crate::maps::ends_with_slash;
-use std::alloc::AllocError;
+use std::alloc::{AllocError, Global};
 
 /// The folder below which files must lie.
 #[derive(Debug, Drop)]
@@ -12,6 +13,17 @@ pub struct RootFolder {
     pub real: String,
     /// The path as the folder was asked for, from the current folder, with a slash at its end.
     pub spelled: String,
+}
+
+/// The real path of a folder. What is there and is none is the fault `NoFolder`.
+pub fn real_folder<F: Files>(alloc: Global, files: &F, named: &str) -> Result<String, FileFault>
+    ensures { IfOk result (λ real. F.leads files.now named.now (string_bytes real)) }
+{
+    match files.real_path(alloc, named, Kinds::Regular) {
+        Err(FileFault::Folder) => files.real_path(alloc, named, Kinds::Any),
+        Ok(_) | Err(FileFault::Special) => Err(FileFault::NoFolder),
+        Err(fault) => Err(fault),
+    }
 }
 
 /// A path of a folder with a slash at its end.
@@ -26,7 +38,7 @@ pub fn with_slash(path: String) -> Result<String, AllocError>
 }
 
 /// A path up to its last slash, and with it; nothing where it has no slash.
-fn up_to_last_slash(path: &str) -> &str {
+pub fn up_to_last_slash(path: &str) -> &str {
     match path.rfind('/') {
         Some(at) => &path[..at + 1],
         None => "",

@@ -36,6 +36,29 @@ pub enum SourceFaultKind {
         /// Why it can't be read.
         fault: FileFault,
     },
+    /// The file to which a map leads can't be read.
+    Mapped {
+        /// The URI that the reference stands for, or is.
+        uri: String,
+        /// The path, as it is told to people.
+        path: String,
+        /// Why it can't be read.
+        fault: FileFault,
+    },
+    /// An entry of a catalog leads to what is no file; nothing is fetched.
+    Elsewhere {
+        /// The URI that the reference stands for, or is.
+        uri: String,
+        /// Where it leads.
+        target: String,
+    },
+    /// An entry of a catalog says that another catalog alone is to know the URI; it is not read for that.
+    Delegated {
+        /// The URI that the reference stands for, or is.
+        uri: String,
+        /// The other catalog.
+        catalog: String,
+    },
     /// The reference names no file.
     Reference(ReferenceFault),
     /// The reference stands for this URI, which no map has a prefix of and which is no `file` URI.

@@ -8,8 +8,8 @@ use crate::bounds::Ways;
 use crate::file_names::name_files;
 use crate::files::{FileFault, Files, Kinds};
 use crate::following::{enter_words, follow_all, word_uri};
-use crate::maps::locate;
-use crate::root_folder::{RootFolder, with_slash};
+use crate::locations::locate;
+use crate::root_folder::{RootFolder, real_folder, with_slash};
 use crate::soundness::sources_fault;
 use crate::source_faults::{FaultPlace, SourceFault};
 use crate::sources::{Asked, Attempt, SourceFile, Sources};
@@ -54,7 +54,7 @@ impl From<AllocError> for ReadingFault {
     }
 }
 
-/// The root folder that is asked for; where it isn't there, that is kept.
+/// The root folder that is asked for; where it isn't there, or is none, that is kept.
 fn given_root<F: Files>(
     alloc: Global,
     files: &F,
@@ -64,7 +64,7 @@ fn given_root<F: Files>(
 ) -> Result<Option<RootFolder>, AllocError>
     ensures { IfOk result (λ found. IfSome found (IsRootOf (F.leads files.now) named.now)) }
 {
-    let answer = files.real_path(alloc, named, Kinds::Any);
+    let answer = real_folder(alloc, files, named);
     let Some(real) = walk.note_answer(FaultPlace::Root, answer)? else {
         return Ok(None);
     };

@@ -14,8 +14,9 @@ pub struct Asked<'a> {
     /// The root folder, from which the names of modules are counted; `None` for the deepest folder that holds all
     /// files.
     pub root: Option<&'a str>,
-    /// Where URIs lie; of maps with one prefix the first counts.
-    pub maps: &'a [Map],
+    /// Where URIs lie, in groups: of the first group that has maps for a URI the one counts that has most of it, the first of
+    /// them among equals.
+    pub maps: &'a [Vec<Map>],
     /// The path of the file that standard input is read in place of. `None` where it has none: it is told as `-`, and what
     /// it refers to is looked for from the current folder.
     pub input: Option<&'a str>,

@@ -43,6 +43,12 @@ pub enum ReferenceFault {
     /// The URI has the scheme `file` and no path from `/` on.
     #[error("the path of a file URI begins with /")]
     Relative,
+    /// An entry of a catalog leads from the URI to another, which is no file's.
+    #[error("a catalog leads to what is no file")]
+    Elsewhere,
+    /// An entry of a catalog says that another catalog alone is to know the URI.
+    #[error("a catalog leaves the URI to another catalog")]
+    Delegated,
     /// A `..` of the reference leads above the root of the path.
     #[error("`..` leads above the topmost folder")]
     Above,

@@ -3,7 +3,7 @@ ghost use Rattle.std.specs.Prelude.{◌≡◌, IfOk, IfSome, Ok};
 ghost use Rattle.rn_files.specs.inside.Following.{EntriesGrow};
 
 use crate::files::FileFault;
-use crate::links::LinkFault;
+use crate::links::{LinkFault, Tried};
 use crate::source_faults::{FaultPlace, SourceFault, SourceFaultKind};
 use crate::sources::Written;
 use crate::uri_references::ReferenceFault;
@@ -82,7 +82,7 @@ pub struct Walk {
 }
 
 /// A fault as it is kept.
-fn link_kind(place: FaultPlace, tried: String, fault: LinkFault) -> SourceFaultKind {
+fn link_kind(place: FaultPlace, tried: Tried, fault: LinkFault) -> SourceFaultKind {
     match place {
         FaultPlace::Text { .. } => fault.kind_at_reference(tried),
         _ => fault.kind(),
@@ -148,12 +148,11 @@ impl Walk {
         }
     }
 
-    /// What a word or a reference led to; a fault is kept, with the path or the URI that was tried for a reference, and
-    /// is then none.
+    /// What a word or a reference led to; a fault is kept, with what was tried for a reference, and is then none.
     pub fn note_link<T: Drop>(
         &mut self,
         place: FaultPlace,
-        tried: String,
+        tried: Tried,
         led: Result<T, LinkFault>,
     ) -> Result<Option<T>, AllocError>
         ensures grows { EntriesGrow self.old self.new }

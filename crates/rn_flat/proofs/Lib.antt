@@ -1,3 +1,4 @@
 pub mod LiftedSets
 pub mod SharedFronts
 pub mod Schemas
+mod ReachedMarks

@@ -9,6 +9,7 @@ ghost use Rattle.rn_flat.specs.JobResults.{Delivers, HasFlatSchema, IsFlatGramma
 ghost use Rattle.rn_flat.specs.inside.ToldFiles.{told_of};
 ghost use Rattle.rn_rng.specs.Written.{IsXmlOf};
 
+use crate::catalogs::job_maps;
 use crate::compare::check_file;
 use crate::definition_lines::{origins_text, unused_text};
 use crate::ending::Ending;
@@ -20,7 +21,7 @@ use crate::products::{graph_text, list_text};
 use crate::reading_faults::reading_fault;
 use crate::words::{Job, Product, Syntax, Task};
 use rn_assemble::{Refusal, ShortGrammar, assemble_short};
-use rn_files::{Asked, Files, LinkedFiles, SourceFile, Sources, read_files, sources_of};
+use rn_files::{Asked, Files, LinkedFiles, Map, SourceFile, Sources, read_files, sources_of};
 use rn_lift::Lifted;
 use rn_merge::{Sink, merge};
 use rn_modset::write_bundle;
@@ -32,10 +33,11 @@ use std::alloc::{AllocError, Global};
 const TOO_LARGE_XML: &str =
     "the flat schema would have more than 67,108,864 bytes in the XML syntax";
 
-/// Reads the files of a job with all that they reach, makes what is asked for, and writes or compares it, or looks for
-/// faults alone. Nothing is written where there is a fault. `Refused` where the files are no schema, or the file that is
-/// checked is not the schema; `Usage` where the output is one of the files that were read; `Unread` where a file can't be
-/// read; `Unwritten` where the output failed: a file is then as it was, standard output took a front.
+/// Reads the catalogs of a job, and its files with all that they reach, makes what is asked for, and writes or compares
+/// it, or looks for faults alone. Nothing is written where there is a fault. `Refused` where a catalog is at fault, the
+/// files are no schema, or the file that is checked is not the schema; `Usage` where the output is one of the files that
+/// were read; `Unread` where a file or a catalog can't be read; `Unwritten` where the output failed: a file is then as it
+/// was, standard output took a front.
 ///
 /// A bundle is refused only where files can't be read or lifted or their modules are no set; a list, only for reading
 /// and lifting; a graph, only for reading: where files refer to themselves, it is drawn, and the answer is `Found`. So it
@@ -56,18 +58,43 @@ pub fn perform<F: Files, S: Outputs, W: Sink>(
     ensures outputs { LeavesOutput result (outputs.new ≡ outputs.old) }
     ensures unwritten { WritesNothing job.now.task (out.new ≡ out.old) (outputs.new ≡ outputs.old) }
 {
-    let asked = asked_of(job);
-    let linked = match read_files(alloc, files, &asked) {
+    match job_maps(alloc, files, job, format) {
+        Ok(maps) => {
+            let asked = asked_of(job, maps.as_slice());
+            perform_asked(alloc, files, &job.task, &asked, format, outputs, out)
+        }
+        Err(fault) => Err(fault),
+    }
+}
+
+/// Does what is to be done with the files that are asked for, as [`perform`] says.
+fn perform_asked<F: Files, S: Outputs, W: Sink>(
+    alloc: Global,
+    files: &F,
+    task: &Task,
+    asked: &Asked<'_>,
+    format: Format,
+    outputs: &mut S,
+    out: &mut W,
+) -> Result<Ending, FlatFault>
+    requires { W.has_failed out.old ≡ false }
+    ensures delivers { Delivers task.now (W.contents out.old) (W.contents out.new)
+        (S.holds outputs.new) (F.gives files.now) result }
+    ensures sink { LeavesOutput result (out.new ≡ out.old) }
+    ensures outputs { LeavesOutput result (outputs.new ≡ outputs.old) }
+    ensures unwritten { WritesNothing task.now (out.new ≡ out.old) (outputs.new ≡ outputs.old) }
+{
+    let linked = match read_files(alloc, files, asked) {
         Ok(linked) => linked,
-        Err(reading) => return Err(reading_fault(alloc, &asked, &reading, format)),
+        Err(reading) => return Err(reading_fault(alloc, asked, &reading, format)),
     };
-    match &job.task {
+    match task {
         Task::Write { product, output } => {
             if let Some(path) = output {
                 let read = linked.sources.files.as_slice();
                 check_output(alloc, files, read, path.as_str(), format)?;
             }
-            let made = made_of(alloc, files, &asked, linked, *product, format)?;
+            let made = made_of(alloc, files, asked, linked, *product, format)?;
             let text = made.text.as_slice();
             match output {
                 Some(path) => match write_file(alloc, outputs, path.as_str(), text, format) {
@@ -81,12 +108,12 @@ pub fn perform<F: Files, S: Outputs, W: Sink>(
             }
         }
         Task::Check { file, syntax } => {
-            let sources = sound_sources(alloc, files, &asked, linked, format)?;
+            let sources = sound_sources(alloc, files, asked, linked, format)?;
             check_schema(alloc, files, sources, file.as_str(), *syntax, format)?;
             Ok(Ending::Clean)
         }
         Task::Lint => {
-            let sources = sound_sources(alloc, files, &asked, linked, format)?;
+            let sources = sound_sources(alloc, files, asked, linked, format)?;
             lint(alloc, &sources, format)?;
             Ok(Ending::Clean)
         }
@@ -110,12 +137,12 @@ fn check_schema<F: Files>(
     check_file(alloc, files, file, text.as_slice(), format)
 }
 
-/// What the words of a job ask for of files.
-fn asked_of(job: &Job) -> Asked<'_> {
+/// What the words of a job ask for of files, where URIs lie by these maps.
+fn asked_of<'a>(job: &'a Job, maps: &'a [Vec<Map>]) -> Asked<'a> {
     Asked {
         files: job.files.as_slice(),
         root: job.root.as_ref().map(|root| root.as_str()),
-        maps: job.maps.as_slice(),
+        maps,
         input: job.input.as_ref().map(|input| input.as_str()),
     }
 }

@@ -6,6 +6,7 @@
 #![tactic(auto)]
 
 mod asked_tasks;
+mod catalogs;
 pub mod compare;
 pub mod definition_lines;
 pub mod ending;

@@ -17,11 +17,11 @@ const VERSION: &str = "1.0";
 
 /// What is said above the options.
 const ABOUT: &str =
-    "Reads RELAX NG schemas in the compact syntax, with all files that they include or refer to, and prints one flat schema in one canonical spelling.";
+    "Reads RELAX NG schemas, in the compact or the XML syntax, with all files that they\ninclude or refer to, and prints one flat schema in one canonical spelling.";
 
 /// What is said below the options.
 const AFTER: &str =
-    "A FILE of - is standard input. Status: 0 done; 1 the schema is refused, or differs from the file of --check; 2 these words can't be understood; 3 a file, the output or memory.";
+    "A FILE of - is standard input. Status: 0 done; 1 the schema is refused, or differs from\nthe file of --check; 2 these words can't be understood; 3 a file, the output or memory.";
 
 /// When messages may be in colours.
 static COLOURS: [&str; 3] = ["auto", "always", "never"];
@@ -94,8 +94,10 @@ pub struct Job {
     pub files: Vec<String>,
     /// The root folder, if one is given.
     pub root: Option<String>,
-    /// Where URIs lie.
+    /// Where URIs lie, by words.
     pub maps: Vec<Map>,
+    /// The catalogs that say where other URIs lie, by their paths.
+    pub catalogs: Vec<String>,
     /// The path of the file that standard input is read in place of, if one is given.
     pub input: Option<String>,
     /// What is done with the files.
@@ -198,6 +200,7 @@ fn program<'a>(alloc: Global) -> Result<Command<'a>, AllocError> {
             "Write what includes what, as a Graphviz text",
         ))?
         .arg(map_option(alloc))?
+        .arg(catalog_option(alloc))?
         .arg(valued_option(
             alloc,
             "root",
@@ -299,10 +302,20 @@ fn map_option<'a>(alloc: Global) -> Arg<'a> {
         .help("Look in FOLDER for what a URI that begins with PREFIX refers to")
 }
 
+/// The option that names a catalog.
+fn catalog_option<'a>(alloc: Global) -> Arg<'a> {
+    Arg::new(alloc, "catalog")
+        .long("catalog")
+        .value_name("FILE")
+        .action(ArgAction::Append)
+        .help("Look in the XML catalog FILE for where a URI leads")
+}
+
 /// What the words ask for, which are understood one by one.
 fn asked_words(alloc: Global, words: &ArgMatches<'_>) -> Result<Words, WordsFault> {
     let files = copies(alloc, words.get_strs("FILE").unwrap_or(&[]))?;
     let maps = maps(alloc, words.get_strs("map").unwrap_or(&[]))?;
+    let catalogs = copies(alloc, words.get_strs("catalog").unwrap_or(&[]))?;
     let task = asked_task(alloc, words)?;
     let root = copy(alloc, words.get_str("root"))?;
     let input = asked_input(alloc, words, files.as_slice())?;
@@ -316,6 +329,7 @@ fn asked_words(alloc: Global, words: &ArgMatches<'_>) -> Result<Words, WordsFaul
         files,
         root,
         maps,
+        catalogs,
         input,
         task,
         is_json: words.get_str("format") == Some("json"),
@@ -360,16 +374,13 @@ fn colour_choice(words: &ArgMatches<'_>) -> ColourChoice {
     }
 }
 
-/// The maps of these words. A word ends its prefix at the first `=`.
+/// The maps of these words. A word ends its prefix at the last `=`, so that a prefix may have one.
 fn maps(alloc: Global, words: &[&str]) -> Result<Vec<Map>, WordsFault> {
     let mut maps = Vec::new(alloc);
     for word in words {
-        match word.split_once('=') {
+        match word.rsplit_once('=') {
             Some((prefix, folder)) if !prefix.is_empty() && !folder.is_empty() => {
-                let map = Map {
-                    prefix: String::from_str(alloc, prefix)?,
-                    folder: String::from_str(alloc, folder)?,
-                };
+                let map = Map::below(alloc, prefix, folder)?;
                 maps.push(map).map_err(|_| WordsFault::Memory)?;
             }
             _ => return usage(alloc, "the value of --map must be PREFIX=FOLDER"),

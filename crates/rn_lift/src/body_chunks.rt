@@ -21,7 +21,7 @@ pub(crate) enum Chunk {
     },
     /// A part, which is replaced.
     Link {
-        /// The number of the part in its file.
+        /// The index of the part in its file.
         part: usize,
         /// Whether it is all that is excepted from data: it is right after a `-`.
         is_excepted: bool,
@@ -31,7 +31,7 @@ pub(crate) enum Chunk {
 #[derive(Drop)]
 pub(crate) struct BodyChunks {
     bodies: Vec<Vec<Chunk>>,
-    /// The number of each body, by the file and the part of its definition.
+    /// The index of each body, by the file and the part of its definition.
     numbers: BTreeMap<(usize, usize), usize>,
 }
 
@@ -56,7 +56,7 @@ impl BodyChunks {
         }
     }
 
-    /// The number of the body of a definition.
+    /// The index of the body of a definition.
     pub(crate) fn number(
         &mut self,
         alloc: Global,
@@ -116,7 +116,7 @@ struct Cutter {
     chunks: Vec<Chunk>,
     /// Where the body begins in its file.
     from: usize,
-    /// The number of the next part.
+    /// The index of the next part.
     next: usize,
 }
 
@@ -210,7 +210,7 @@ impl Cutter {
     }
 }
 
-/// The first token behind one that does not begin before a byte.
+/// The first token after one that does not begin before a byte.
 fn token_behind(tokens: &[Token<'_>], at: usize, byte: usize) -> usize
     requires { at < length tokens.now }
     ensures { Advanced at result (length tokens.now) }

@@ -80,7 +80,7 @@ impl<'a> Draft<'a> {
         self.push(text, at, false)
     }
 
-    /// Appends the bytes up to what is replaced, and what stands in its place.
+    /// Appends the bytes up to what is replaced, and what replaces it.
     fn replace(&mut self, edit: &Edit, from: usize) -> Result<(), LiftFault>
         ensures text { OnOk result (string_bytes self.new.text ≡ string_bytes self.old.text
             ++ (slice_range self.old.source.now from edit.now.span.from

@@ -1,4 +1,4 @@
-// What is put in the place of bytes of a file.
+// What replaces bytes of a file.
 ghost use Rattle.std.specs.Prelude.{◌≡◌, All, IfOk, MatchOption, OnOk};
 ghost use Rattle.rn_lift.specs.LiftedModules.{OthersStay};
 ghost use Rattle.rn_lift.specs.inside.Planned.{AddsEdit, IsEditOf, StaysAt};
@@ -9,16 +9,16 @@ use rn_outline::Span;
 use rn_scopes::{LiftFault, Unit};
 use std::alloc::Global;
 
-/// What stands in the place of a part of a file, or of its name.
+/// What replaces a part of a file, or its name.
 #[derive(Drop)]
 pub(crate) struct Edit {
-    /// The number of the part in the file's outline.
+    /// The index of the part in the file's outline.
     pub(crate) part: usize,
     pub(crate) span: Span,
     pub(crate) text: String,
 }
 
-/// What is put in the place of parts of a unit, or of their names.
+/// What replaces parts of a unit, or their names.
 pub(crate) fn edits_of(
     alloc: Global,
     view: &PlaceView<'_, '_>,
@@ -39,8 +39,8 @@ pub(crate) fn edits_of(
     Ok(edits)
 }
 
-/// What is put in the place of parts of a file, or of their names, where the unit is the file's own grammar: all parts
-/// are looked through.
+/// What replaces parts of a file, or their names, where the unit is the file's own grammar: all parts are looked
+/// through.
 fn edits_of_file(
     alloc: Global,
     view: &PlaceView<'_, '_>,
@@ -59,7 +59,7 @@ fn edits_of_file(
     Ok(edits)
 }
 
-/// Adds what is put in the place of the part of this number, if something is.
+/// Adds what replaces the part of this index, if something does.
 fn add_edit(
     alloc: Global,
     view: &PlaceView<'_, '_>,
@@ -77,7 +77,7 @@ fn add_edit(
     Ok(())
 }
 
-/// What is put in the place of the part of this number, or of its name.
+/// What replaces the part of this index, or its name.
 fn edit_of(
     alloc: Global,
     view: &PlaceView<'_, '_>,

@@ -1,4 +1,4 @@
-// What references in excepts come to (RELAX NG 2001, 7.1.4).
+// What replaces references in excepts (RELAX NG 2001, 7.1.4).
 ghost use Rattle.std.specs.Prelude.{◌≡◌, false, [], IfOk, string_bytes};
 ghost use Rattle.std.specs.List.{list_any};
 ghost use Rattle.rn_lift.specs.inside.Excepted.{is_excepted};
@@ -13,17 +13,17 @@ use std::alloc::{AllocError, Global};
 use std::collections::{BTreeMap, BTreeSet};
 
 /// How many bytes all texts in excepts may have together: as many as a printed text and a module's text may have,
-/// `MAX_TEXT` of rn_modset, on which this crate does not stand.
+/// `MAX_TEXT` of rn_modset, which this crate does not use.
 pub const MAX_EXCEPTS: usize = 4_194_304;
 
 /// In how many steps a text in an except is written at most: each byte of it takes two or fewer.
 const MAX_STEPS: usize = MAX_EXCEPTS * 2;
 
-/// What stands in the place of the references in excepts of a place, and the declarations that it needs.
+/// What replaces the references in excepts of a place, and the declarations that this needs.
 #[derive(Drop)]
 pub(crate) struct Spliced {
     pub(crate) declarations: String,
-    /// What stands in the place of each reference, by the numbers of the parts, which rise.
+    /// What replaces each reference, by the indices of the parts, which rise.
     texts: Vec<(usize, String)>,
 }
 
@@ -42,7 +42,7 @@ impl Spliced {
         Some(&self.texts.get(number)?.1)
     }
 
-    /// What stands in the place of a part.
+    /// What replaces a part in an except, as a copy.
     pub(crate) fn copied_text(&self, part: usize) -> Result<Option<String>, AllocError> {
         match self.text(part) {
             Some(text) => Ok(Some(text.clone()?)),
@@ -55,7 +55,7 @@ impl Spliced {
 pub(crate) struct Excepts {
     definitions: Definitions,
     bodies: BodyChunks,
-    /// Of each name whose definition is nothing but a reference, the last one of the references that lead on from it.
+    /// For each name with nothing but a reference as its definition, the last of the references that lead on from it.
     lasts: BTreeMap<ScopedName, Reference>,
     /// How many bytes are left of the limit.
     left: usize,
@@ -71,7 +71,7 @@ enum ToWrite {
         body: usize,
         next: usize,
     },
-    /// The end of what a key comes to.
+    /// The end of what replaces a key.
     Leave(ScopedName),
 }
 
@@ -106,8 +106,7 @@ impl Excepts {
         })
     }
 
-    /// What stands in the place of the references in excepts of a place, which is that of this unit
-    /// of a file.
+    /// What replaces the references in excepts of a place, which is that of this unit of a file.
     pub(crate) fn splice(
         &mut self,
         alloc: Global,
@@ -151,7 +150,7 @@ impl Excepts {
         })
     }
 
-    /// What a part in an except comes to, within brackets.
+    /// What replaces a part in an except, within brackets.
     fn followed_text(
         &mut self,
         alloc: Global,
@@ -235,7 +234,7 @@ impl Excepts {
         }
     }
 
-    /// Begins what a reference comes to, within brackets. So a choice is one pattern.
+    /// Begins what replaces a reference, within brackets. So a choice is one pattern.
     fn open_bracketed(
         &mut self,
         alloc: Global,
@@ -249,7 +248,7 @@ impl Excepts {
         self.open(alloc, units, plan, trail, reference)
     }
 
-    /// Begins what a reference comes to: a choice, or a member of the one around it.
+    /// Begins what replaces a reference: a choice, or a member of the one around it.
     fn open(
         &mut self,
         alloc: Global,
@@ -270,8 +269,8 @@ impl Excepts {
         push_bodies(alloc, units, plan, &mut self.bodies, trail, standing)
     }
 
-    /// The name that a reference comes to. Definitions that are nothing but a reference are passed, each of them once in
-    /// all; those of the name itself aren't.
+    /// The name that a reference leads to. Definitions that are nothing but a reference are passed, each of them once
+    /// in all; those of the name itself aren't.
     fn last_name(
         &mut self,
         alloc: Global,
@@ -334,7 +333,7 @@ impl Excepts {
         }))
     }
 
-    /// Keeps what these names come to.
+    /// Keeps what these names lead to.
     fn keep_last(
         &mut self,
         names: BTreeSet<ScopedName>,
@@ -347,8 +346,8 @@ impl Excepts {
     }
 }
 
-/// Whether a part of a unit stands in an except; the outline is that of the unit's file. Of a file with many grammars
-/// only the parts of the unit are looked at.
+/// Whether a part of a unit is in an except; the outline is that of the unit's file. Of a file with many grammars only
+/// the parts of the unit are visited.
 fn has_excepts(unit: &Unit, outline: &Outline) -> bool
     ensures { result ≡ list_any (is_excepted outline.now.parts.items) unit.now.parts.items }
 {
@@ -357,7 +356,7 @@ fn has_excepts(unit: &Unit, outline: &Outline) -> bool
         .any(|number| is_in_except(outline, *number))
 }
 
-/// Whether the part of that number stands in an except.
+/// Whether the part of that index is in an except.
 fn is_in_except(outline: &Outline, number: usize) -> bool
     ensures { result ≡ is_excepted outline.now.parts.items number }
 {

@@ -6,27 +6,27 @@ ghost use Rattle.rn_lift.specs.Origins.{HasNoOrigin, IsOrigin, byte_of, piece_at
 use std::collections::BTreeSet;
 
 /// Where bytes of a module's text come from: those from `from` on, up to the next piece. They are the
-/// bytes of a file from `at` on, or they were made for what stands at `at`. All are counts of bytes.
+/// bytes of a file from `at` on, or they were made for what is at `at`. All are counts of bytes.
 #[derive(Clone, Copy, Debug, PartialEq, Eq)]
 pub struct Piece {
     /// The first byte of the module's text that belongs to the piece.
     pub from: usize,
-    /// The number of the file.
+    /// The index of the file.
     pub file: usize,
     /// The byte of the file's text: the first one of the piece, or that for which the bytes were made.
     pub at: usize,
-    /// Whether the bytes are those of the file, and not made for what stands at `at`.
+    /// Whether the bytes are those of the file, and not made for what is at `at`.
     pub is_source: bool,
 }
 
 /// What a module was made of.
 #[derive(Clone, Copy, Debug, PartialEq, Eq)]
 pub struct Basis {
-    /// The number of the file.
+    /// The index of the file.
     pub file: usize,
-    /// The number of the grammar in the file's outline; 0 is the file's own.
+    /// The index of the grammar in the file's outline; 0 is the file's own.
     pub grammar: usize,
-    /// The number of the scope; 0 is that of the roots, whose names are as they are written.
+    /// The index of the scope; 0 is that of the roots, whose names are as they are written.
     pub scope: usize,
 }
 
@@ -48,7 +48,7 @@ pub struct LiftedModule {
 pub struct Lifted {
     /// The modules, in the order of their names, which are distinct.
     pub modules: Vec<LiftedModule>,
-    /// The stems that were made: what stands before the first dot of a name that no file writes.
+    /// The generated stems: what is before the first dot of a name that no file writes.
     pub(crate) made_stems: BTreeSet<String>,
     /// What follows the first dot of the name of a start.
     pub(crate) start: String,
@@ -83,7 +83,7 @@ fn byte_in(piece: Piece, at: usize) -> Option<usize>
 }
 
 impl LiftedModule {
-    /// Where a byte of the text comes from: the number of a file, and a byte of it. For what was made this is the place
+    /// Where a byte of the text comes from: the index of a file, and a byte of it. For what was made this is the place
     /// that it was made for. The end of the text has an origin too.
     pub fn origin(&self, at: usize) -> Option<(usize, usize)>
         ensures some { IfSome result (IsOrigin self.now.pieces.items at) }
@@ -99,8 +99,8 @@ impl LiftedModule {
 }
 
 impl Lifted {
-    /// What the files call what has this name in the modules: without what stands before its first dot and the dot, if
-    /// it is a name of its own; `start` for the start of a grammar of its own. Any other name as it is.
+    /// What the files call what has this name in the modules: of a generated name, what follows its first dot, and
+    /// `start` for a generated start. Any other name as it is.
     pub fn written_name<'a>(&self, name: &'a str) -> &'a str {
         let Some((stem, rest)) = name.split_once('.') else {
             return name;

@@ -16,11 +16,11 @@ use rn_text::write_literal;
 use std::alloc::{AllocError, Global};
 use std::cmp::Ordering;
 
-/// How many bytes more than all files together the modules of their places may have. Names of their own make modules
+/// How many bytes more than all files together the modules of their places may have. Generated names make modules
 /// longer than files, as do declarations, which each nested grammar takes along, and files that become several modules.
 pub const MAX_GROWTH: usize = 16_777_216;
 
-/// The module that brings in a scope: it hands the namespace to the first module.
+/// The module that brings in a scope: its first module inherits the namespace from it.
 fn bringing_module(alloc: Global, plan: &Plan, scope: &Scope) -> Result<LiftedModule, AllocError>
     ensures { IfOk result (BringsIn (entry_of plan.now scope.now)) }
 {
@@ -42,7 +42,7 @@ fn bringing_module(alloc: Global, plan: &Plan, scope: &Scope) -> Result<LiftedMo
     })
 }
 
-/// A text that includes a module, and hands a namespace to it.
+/// A text that includes a module, which inherits a namespace from it.
 fn bringing_text(alloc: Global, namespace: &str, included: &str) -> Result<String, AllocError>
     ensures { IfOk result (λ t. string_bytes t ≡ bringing_bytes namespace.now included.now) }
 {
@@ -84,7 +84,7 @@ fn bytes_of_files(units: &Units<'_>) -> usize {
     bytes
 }
 
-/// How many of so many bytes are left behind a module's text; `Grown` where it has more.
+/// How many of so many bytes a module's text leaves; `Grown` where it has more.
 fn left_behind(left: usize, module: &LiftedModule) -> Result<usize, LiftFault>
     ensures { MatchResult result
         (λ rest. rest + length (string_bytes module.now.text) ≡ left)
@@ -130,8 +130,8 @@ fn add_bringing_modules(
     Ok(())
 }
 
-/// The modules that files become (RELAX NG 2001, 4.6, 4.7, 4.18, 7.1.4). `roots` are the numbers of
-/// the files asked for; a root may be included by another, and a number that no file has is passed
+/// The modules that files become (RELAX NG 2001, 4.6, 4.7, 4.18, 7.1.4). `roots` are the indices of
+/// the files asked for; a root may be included by another, and an index that no file has is passed
 /// over. The schema of the modules is that of the roots.
 ///
 /// Files that no root reaches become no modules. A file of the roots' scope keeps its name, and its

@@ -18,13 +18,13 @@ use rn_scopes::{
 use rn_text::write_literal;
 use std::alloc::{AllocError, Global};
 
-/// A place whose text is written, and what it is written from.
+/// A place of which the text is written, and what it is written from.
 #[derive(Clone, Copy)]
 pub(crate) struct PlaceView<'u, 'a> {
     units: &'u Units<'a>,
     plan: &'u Plan,
     pub(crate) given: &'u Given<'a>,
-    /// The number of the place.
+    /// The index of the place.
     number: usize,
     /// What it is made of.
     pub(crate) basis: Basis,
@@ -39,7 +39,7 @@ pub(crate) fn unsound_fault() -> LiftFault {
     }
 }
 
-/// The module of the place of this number.
+/// The module of the place of this index.
 pub(crate) fn module_at(
     alloc: Global,
     units: &Units<'_>,
@@ -79,7 +79,7 @@ struct PlaceWithFile<'u, 'a> {
     given: &'u Given<'a>,
 }
 
-/// The place of this number, with its unit and its file.
+/// The place of this index, with its unit and its file.
 fn place_with_file<'u, 'a>(
     units: &'u Units<'a>,
     plan: &'u Plan,
@@ -123,7 +123,7 @@ fn draft_of<'a>(
     Ok(draft)
 }
 
-/// What stands in a unit: the file behind its declarations, or what is between the braces.
+/// What is in a unit: the file after its declarations, or what is between the braces.
 fn inside_of(view: &PlaceView<'_, '_>, unit: &Unit) -> Span
     ensures { view.now.basis.grammar ≡ 0 → result ≡ record {
       from = view.now.given.now.file.outline.now.body.from;
@@ -174,7 +174,7 @@ fn reference_to(alloc: Global, stem: &str, start: &str) -> Result<String, AllocE
 }
 
 impl<'u, 'a> PlaceView<'u, 'a> {
-    /// What stands in the place of a part, or of its name, if it doesn't stay.
+    /// What replaces a part, or its name, if it doesn't stay.
     pub(crate) fn text_for(
         &self,
         alloc: Global,
@@ -194,7 +194,7 @@ impl<'u, 'a> PlaceView<'u, 'a> {
         }
     }
 
-    /// What stands in the place of a part that isn't in an except, or of its name, if it doesn't stay.
+    /// What replaces a part that isn't in an except, or its name, if it doesn't stay.
     fn stand_in(
         &self,
         alloc: Global,

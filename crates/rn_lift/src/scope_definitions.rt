@@ -44,7 +44,7 @@ pub(crate) struct Definitions {
 }
 
 impl Definitions {
-    /// All definitions of all places; none, where no reference stands in an except.
+    /// All definitions of all places; none, where no reference is in an except.
     pub(crate) fn of(alloc: Global, units: &Units<'_>, plan: &Plan) -> Result<Self, AllocError> {
         let mut definitions = Definitions {
             rows: BTreeMap::new(alloc),
@@ -123,7 +123,7 @@ impl Definitions {
         }
     }
 
-    /// Leaves the definitions of an overridden name that stand. So there is one walk for each name.
+    /// Keeps the live definitions of an overridden name alone. It is done once for each name.
     fn drop_overridden(
         &mut self,
         alloc: Global,

@@ -16,9 +16,9 @@ ghost use Rattle.rn_merge.specs.declared.run.RunFault.{RunFault};
 ghost use Rattle.rn_merge.specs.declared.run.RunFault.TheVariants as failing;
 ghost use Rattle.rn_merge.specs.declared.run.Status.{Status};
 
-/// Every set has a verdict: that it has none is impossible. So it is with each step to it: where a
-/// refusal stands for the set, there is a first one; where none does, the set has a grammar; and
-/// each grammar has a canonical grammar, whose text is printed or is too long or too deep.
+/// Every set has a verdict: that it has none is impossible. So it is with each step to it. Where a
+/// refusal is true of the set, there is a first one; where none is, the set has a grammar. Each
+/// grammar has a canonical grammar, whose text is printed or is too long or too deep.
 pub fn every_set_has_a_verdict()
     ensures verdict { (s : List Member) → ¬ ((v : Verdict) → ¬ IsVerdict s v) }
     ensures first { (s : List Member) (q : Refusal) → Stands s q
@@ -28,8 +28,8 @@ pub fn every_set_has_a_verdict()
     ensures canonical { (g : Grammar) → ¬ ((n : Grammar) → ¬ IsCanonicalOf g n) }
 {}
 
-/// A refusal that is the verdict of a set is the first that stands for it, of those of modules; where
-/// the text would be too long or too deep, none of modules stands.
+/// A refusal that is the verdict of a set is the first that is true of it, of those of modules. Where
+/// the text would be too long or too deep, none of modules is true.
 pub fn verdicts_refuse_first()
     ensures { (s : List Member) (q : code.Refusal) → IsSomeAnd (verdict_view q) (IsVerdict s)
         → RefusesFirst s q }
@@ -70,7 +70,7 @@ pub fn contributions_alone_make_the_union()
 {}
 
 /// Runs that are done, over bundles that bring the same contributions, however spread over them,
-/// tell one verdict: they wrote the same text, or answered the same refusal; and where the one is
+/// report one verdict: they wrote the same text, or answered the same refusal. Where the one is
 /// done, the other is not `Full`. The same bundles, in any order and however often, bring the same.
 pub fn runs_tell_one_verdict()
     ensures one_verdict { (bundles others : List (List ℕ)) (old new before after : Option (List ℕ))

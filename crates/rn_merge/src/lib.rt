@@ -1,4 +1,6 @@
 //! Merging a set of modules into one flat schema, and the work of the program `rnc-merge`.
+//!
+//! An `AllocError`, and `Memory` of a fault, says that memory ran out. It is the only error unless said otherwise.
 #![tactic(auto)]
 
 pub mod laws;

@@ -126,7 +126,7 @@ fn push_identifier(line: &mut String, name: &str) -> Result<(), AllocError>
 }
 
 /// The line of `list` for a contribution, without its line feed: name, revision, and the text's
-/// length in bytes with its digest, or that it is withdrawn. Refused only where memory runs out.
+/// length in bytes with its digest, or that it is withdrawn.
 pub fn list_line(alloc: Global, contribution: &Contribution) -> Result<String, AllocError>
     ensures { IfOk result (λ line. string_bytes line ≡ list_line (member contribution.now)) }
 {
@@ -200,7 +200,7 @@ fn place_line(alloc: Global, place: &Place) -> Result<String, AllocError>
 }
 
 /// The status with which the program ends after a fault: 1 where the input is refused, 2 for its
-/// words, 3 for files and memory.
+/// arguments, 3 for files and memory.
 pub fn status(fault: &ProgramFault) -> u8
     ensures { result ≡ status fault.now }
 {

@@ -22,7 +22,7 @@ pub enum Status {
     Refused(Refusal),
 }
 
-/// Why a run came to nothing. Bundles count from 0.
+/// Why a run failed. Bundles count from 0.
 #[derive(Debug, Drop, PartialEq, Eq, Error)]
 pub enum RunFault {
     /// The bytes of this number are no bundle.
@@ -92,7 +92,7 @@ fn united(mut held: ModuleSet, other: ModuleSet) -> Result<ModuleSet, AddFault>
 }
 
 /// Writes the schema of the union of the bundles to a sink that has not failed, or answers the
-/// refusal that is the union's verdict, of modules the first that stands. What is written has all
+/// refusal that is the union's verdict, of modules the first that is true. What is written has all
 /// that [`merge`] promises of a text. `Bundle` and `Full` where the bundles have no union, as
 /// [`read_bundles`] says them; `Memory` where a request for memory was refused; `Write` where the
 /// sink has failed, which then took a front of the text. In all cases but `Done` and `Write` nothing
@@ -118,7 +118,7 @@ pub fn run_print<W: Sink>(
     }
 }
 
-/// What a run comes to where `merge` refuses the union: that memory ran out is no refusal of the
+/// What a run answers where `merge` refuses the union: that memory ran out is no refusal of the
 /// modules.
 fn refusal_outcome(refusal: Refusal) -> Result<Status, RunFault>
     ensures { result ≡ refusal_outcome refusal }

@@ -35,7 +35,7 @@ pub enum ReadFault {
 
 /// What bytes are pulled from.
 pub trait Source {
-    // The bytes that are left, where the type tells them.
+    // The bytes that are left, where the type says which.
     ghost remaining: { Self → Option (List ℕ) } = { λ _. None };
 
     // Whether a pull has failed.
@@ -63,7 +63,7 @@ pub trait Source {
 
 /// What bytes are pushed to.
 pub trait Sink {
-    // The bytes that were taken, where the type tells them.
+    // The bytes that were taken, where the type says which.
     ghost contents: { Self → Option (List ℕ) } = { λ _. None };
 
     // Whether a push has failed.
@@ -183,8 +183,8 @@ impl<W: Write + Drop> Sink for Output<W> {
 
 /// All bytes that a source gives until it ends, at most `limit` of them, which is at most
 /// [`MAX_INPUT`]. The source has neither failed nor ended before. `Read` where the source has
-/// failed, `Large` where it gave more than `limit` bytes; after a refusal the bytes that it gave
-/// are lost, and it stands where it then is.
+/// failed, `Large` where it gave more than `limit` bytes. After either, the bytes that it gave are
+/// lost, and the source has moved past them.
 pub fn read_input<S: Source>(
     alloc: Global,
     source: &mut S,

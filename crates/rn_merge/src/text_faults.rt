@@ -7,8 +7,8 @@ use rn_text::{TextFault, tokens};
 use std::alloc::Global;
 use thiserror::Error;
 
-/// What is wrong with a module text. The first kind in this order that stands is answered, at its
-/// first place: `at` counts bytes from the start of the text.
+/// What is wrong with a module text. The first kind in this order is answered, at its first place:
+/// `at` counts bytes from the start of the text.
 #[derive(Debug, Drop, PartialEq, Eq, Error)]
 pub enum Place {
     /// The text is not UTF-8: the length of the longest front that is.
@@ -36,8 +36,8 @@ pub enum Place {
     /// A value of `QName` or `NOTATION` of the XML Schema library: the start of that name.
     #[error("ContextValue {at}")]
     ContextValue { at: usize },
-    /// The `-` behind which something else than values, data, choices of them and `notAllowed`
-    /// stands (RELAX NG 2001, 7.1.4).
+    /// The `-` that something else follows than values, data, choices of them and `notAllowed`
+    /// (RELAX NG 2001, 7.1.4).
     #[error("Except {at}")]
     Except { at: usize },
     /// A request for memory was refused.

@@ -9,15 +9,14 @@ use rn_modset::ModuleSet;
 use rn_simplify::{normalise, print_long};
 use std::alloc::Global;
 
-/// The verdict of the set: its flat schema in the canonical text, or the first refusal that stands,
+/// The verdict of the set: its flat schema in the canonical text, or the first refusal that is true,
 /// or `OutputTooLarge` or `OutputTooDeep` where the text would be more than may be printed.
 /// `Memory` is for out of memory alone.
 ///
 /// A text is read back as a module that is valid for exactly the documents of the set's
-/// definitions, combined in any pairs and any order (RELAX NG 2001, 4.17). No
-/// refusal stands for its set, so no name is defined plainly twice there, or combined by both
-/// methods. Merged as the one effective module of a set, or as a contribution alone, under any
-/// name, it is answered again.
+/// definitions, combined in any pairs and any order (RELAX NG 2001, 4.17). No refusal is true of
+/// the set, so no name is defined plainly twice there, or combined by both methods. Merged as the
+/// one effective module of a set, or as a contribution alone, under any name, it is answered again.
 pub fn merge(alloc: Global, set: &ModuleSet) -> Result<String, Refusal>
     ensures verdict { IsAnswer set.now result }
     ensures documents { IfOk result (λ text. IsReadAgain set.now (string_bytes text)) }

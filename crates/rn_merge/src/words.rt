@@ -1,4 +1,4 @@
-// What the words of a call ask for.
+// What the arguments of the program ask for.
 ghost use Rattle.std.specs.Prelude.{◌≡◌, List, IfOk, map, string_bytes};
 ghost use Rattle.rn_merge.specs.Words.{AreFiles, NamesFiles};
 
@@ -11,13 +11,13 @@ use rn_modset::{AddFault, BundleFault, parse_decimal};
 use std::alloc::{AllocError, AllocFailed, Global};
 use thiserror::Error;
 
-/// The word for standard input.
+/// The argument for standard input.
 pub const STANDARD_INPUT: &str = "-";
 
-/// One file or more, the last word of a command.
+/// One file or more, the last argument of a command.
 const FILES: &str = "FILE..";
 
-/// The commands, each with its words by place.
+/// The commands, each with its arguments in order.
 const COMMANDS: [(&str, &[&str]); 6] = [
     ("pack", &["NAME", "REV", "FILE"]),
     ("withdraw", &["NAME", "REV"]),
@@ -58,7 +58,7 @@ pub enum Job {
     },
     /// Write the schema of the union of bundles.
     Print {
-        /// The files with the bundles, one or more; standard input alone where there are no words.
+        /// The files with the bundles, one or more; standard input alone where there are no arguments.
         files: Vec<String>,
     },
     /// Test one module text.
@@ -71,10 +71,10 @@ pub enum Job {
 /// Why the program did not do its work. Files count from 0.
 #[derive(Debug, Drop, PartialEq, Eq, Error)]
 pub enum ProgramFault {
-    /// The words have the form of no command.
+    /// The arguments have the form of no command.
     #[error("usage")]
     Usage,
-    /// The word for the revision is no decimal number below 2^64 without sign and leading zeros.
+    /// The argument for the revision is no decimal number below 2^64 without sign and leading zeros.
     #[error("usage: REV")]
     Rev,
     /// `-` is given more than once.
@@ -159,8 +159,8 @@ impl From<RunFault> for ProgramFault {
     }
 }
 
-/// What the words behind the program's name ask for; no words ask for the schema of standard input.
-/// No file is read. `Usage` where the words have the form of no command, then `Rev` where a
+/// What the arguments after the program's name ask for; none ask for the schema of standard input.
+/// No file is read. `Usage` where the arguments have the form of no command, then `Rev` where a
 /// revision is not a decimal number of 64 bits without sign and leading zeros, then `Dash` where
 /// standard input is named twice.
 pub fn plan(alloc: Global, words: &[String]) -> Result<Job, ProgramFault>
@@ -186,7 +186,7 @@ fn is_command(word: &str) -> bool {
     COMMANDS.iter().any(|command| command.0 == word)
 }
 
-/// The commands and their words.
+/// The commands and their arguments.
 fn program<'a>(alloc: Global) -> Result<Command<'a>, AllocError> {
     let mut program = Command::new(alloc, "rnc-merge")
         .no_binary_name(true)
@@ -197,7 +197,7 @@ fn program<'a>(alloc: Global) -> Result<Command<'a>, AllocError> {
     Ok(program)
 }
 
-/// A command of these words.
+/// A command with these arguments.
 fn command<'a>(alloc: Global, name: &'a str, words: &[&'a str]) -> Result<Command<'a>, AllocError> {
     let mut command = Command::new(alloc, name);
     for word in words {
@@ -216,7 +216,7 @@ fn argument<'a>(alloc: Global, word: &'a str) -> Arg<'a> {
     }
 }
 
-/// What a command asks for with its words.
+/// What a command asks for with its arguments.
 fn command_job(alloc: Global, command: &str, words: &ArgMatches<'_>) -> Result<Job, ProgramFault>
     ensures { IfOk result NamesFiles }
 {
@@ -246,7 +246,7 @@ fn command_job(alloc: Global, command: &str, words: &ArgMatches<'_>) -> Result<J
     }
 }
 
-/// The word at a place.
+/// The argument of this name.
 fn word(alloc: Global, words: &ArgMatches<'_>, place: &str) -> Result<String, ProgramFault> {
     match words.get_str(place) {
         Some(word) => Ok(String::from_str(alloc, word)?),
@@ -254,7 +254,7 @@ fn word(alloc: Global, words: &ArgMatches<'_>, place: &str) -> Result<String, Pr
     }
 }
 
-/// The word `REV` as a number: its decimal digits without sign and leading zeros, below 2^64.
+/// The argument `REV` as a number: its decimal digits without sign and leading zeros, below 2^64.
 fn revision(words: &ArgMatches<'_>) -> Result<u64, ProgramFault> {
     match words.get_str("REV") {
         Some(word) => parse_decimal(word.as_bytes()).ok_or(ProgramFault::Rev),
@@ -262,7 +262,7 @@ fn revision(words: &ArgMatches<'_>) -> Result<u64, ProgramFault> {
     }
 }
 
-/// The words `FILE..`, of which one at most is standard input.
+/// The arguments `FILE..`, of which one at most is standard input.
 fn files(alloc: Global, words: &ArgMatches<'_>) -> Result<Vec<String>, ProgramFault>
     ensures { IfOk result (λ files. AreFiles (map string_bytes files.items)) }
 {
@@ -278,7 +278,7 @@ fn files(alloc: Global, words: &ArgMatches<'_>) -> Result<Vec<String>, ProgramFa
     Ok(copies(alloc, files)?)
 }
 
-/// Copies of the words. Refused only where memory runs out.
+/// Copies of the arguments.
 pub fn copies(alloc: Global, words: &[&str]) -> Result<Vec<String>, AllocError>
     ensures { IfOk result
         (λ copies. map string_bytes copies.items ≡ map (λ word. word.now) words.now) }

@@ -6,9 +6,9 @@ use crate::signs::{Sign, sign_at};
 use crate::skips::{annotation, follow};
 use rn_text::Token;
 
-/// The number of the token behind the annotation, or behind the following annotation, that begins
-/// with the token of this number; `None` where no whole one begins (compact syntax, section 2,
-/// annotations and followAnnotation).
+/// The index of the token after the annotation, or the following annotation, that begins at this
+/// index; `None` where no whole one begins (compact syntax, section 2, annotations and
+/// followAnnotation).
 pub fn annotation_end(tokens: &[Token<'_>], at: usize) -> Option<usize>
     ensures { IfSome result (λ r. Advanced at r (length tokens.now)) }
 {

@@ -8,8 +8,8 @@ ghost use Rattle.rn_outline.specs.TokenNames.{unquoted_name};
 
 use std::alloc::{AllocError, Global};
 
-/// What a file is (RELAX NG 2001, 3): a grammar, whose items may have `grammar { .. }` round them,
-/// or another pattern.
+/// What a file is (RELAX NG 2001, 3): a grammar, with or without `grammar { .. }` round its items, or
+/// another pattern.
 #[derive(Clone, Copy, Debug, PartialEq, Eq)]
 pub enum Shape {
     /// `grammar { .. }`, or its items alone.
@@ -23,12 +23,12 @@ pub enum Shape {
 pub struct Span {
     /// The first byte.
     pub from: usize,
-    /// The byte behind the last one.
+    /// The byte after the last one.
     pub to: usize,
 }
 
 /// How a definition is combined with others of its name (RELAX NG 2001, 4.17): `=`, `|=`, `&=`. rn_syntax's `Method` is
-/// that of a module's tree; this one is of files that may be no modules yet, and whose reader stands on rn_text alone.
+/// that of a module's tree; this one is of files that may be no modules yet, and whose reader uses rn_text alone.
 #[derive(Clone, Copy, Debug, PartialEq, Eq)]
 pub enum OutlineMethod {
     /// `=`, which one definition of a name has at most.
@@ -56,13 +56,13 @@ pub enum DeclarationKind {
 pub enum OutlineUri {
     /// The text of the literal, its segments put together.
     Literal(String),
-    /// `inherit`: the namespace that the including file hands on.
+    /// `inherit`: the namespace inherited from the including file.
     Inherited,
 }
 
 /// A declaration (compact syntax, section 2, decl) by the bytes that it takes, so that it can be cut out of its text,
 /// where rn_syntax's `Declaration` has names and the places that faults name. Whether its prefix is bound twice, or may
-/// be bound at all, is not looked at here.
+/// be bound at all, is not checked here.
 #[derive(Debug, Drop, PartialEq, Eq)]
 pub struct OutlineDeclaration {
     /// Which keywords it begins with.
@@ -75,7 +75,7 @@ pub struct OutlineDeclaration {
     pub at: Span,
 }
 
-/// A part of a file. Parts stand in the order in which they begin; one lies in another, or apart
+/// A part of a file. Parts are in the order in which they begin; one is within another, or apart
 /// from it.
 #[derive(Debug, Drop, PartialEq, Eq)]
 pub struct Part {
@@ -102,7 +102,7 @@ pub enum PartKind {
         method: OutlineMethod,
         /// Its pattern, with annotations.
         body: Span,
-        /// Of an override, the number of the part that is its include (4.7).
+        /// Of an override, the index of the part that is its include (4.7).
         within: Option<usize>,
         /// Whether the body is made of data, values, `notAllowed`, references, externals, grammars
         /// and choices of them alone.
@@ -117,7 +117,7 @@ pub enum PartKind {
         method: OutlineMethod,
         /// Its pattern, with annotations.
         body: Span,
-        /// Of an override, the number of the part that is its include (4.7).
+        /// Of an override, the index of the part that is its include (4.7).
         within: Option<usize>,
         /// Whether the body is made of data, values, `notAllowed`, references, externals, grammars and choices of them
         /// alone.
@@ -139,7 +139,7 @@ pub enum PartKind {
         literal: String,
         /// The literal.
         literal_at: Span,
-        /// The prefix behind `inherit =`.
+        /// The prefix after `inherit =`.
         inherit: Option<Span>,
     },
     /// `include` (4.7). The part ends with its overrides.
@@ -148,14 +148,14 @@ pub enum PartKind {
         literal: String,
         /// The literal.
         literal_at: Span,
-        /// The prefix behind `inherit =`.
+        /// The prefix after `inherit =`.
         inherit: Option<Span>,
     },
     /// A nested `grammar { .. }` (4.18).
     Grammar {
         /// Its number, which parts of it have as their grammar.
         number: usize,
-        /// What stands between its braces.
+        /// What is between its braces.
         inside: Span,
     },
 }
@@ -183,8 +183,8 @@ impl Outline {
         self.parts.iter().any(|part| part.in_except)
     }
 
-    /// The numbers of the parts that name another file, externals and includes, in the order of the
-    /// text. Refused only where memory runs out.
+    /// The indices of the parts that name another file, externals and includes, in the order of the
+    /// text.
     pub fn links(&self, alloc: Global) -> Result<Vec<usize>, AllocError>
         ensures { IfOk result (λ v. v.items ≡ link_numbers self.now.parts.items) }
     {
@@ -216,7 +216,7 @@ impl Part {
         }
     }
 
-    /// The byte behind the mark; of a nested grammar, the first byte between its braces.
+    /// The byte after the mark; of a nested grammar, the first byte between its braces.
     pub(crate) fn front_end(&self) -> usize
         ensures { result ≡ front_end self.now }
     {
@@ -237,8 +237,8 @@ pub fn is_link(part: &Part) -> bool
     )
 }
 
-/// The name that a token of the text is: without the backslash of a quoted one. Of a span that lies
-/// not in the text, nothing.
+/// The name that a token of the text is: without the backslash of a quoted one. Of a span outside the
+/// text, nothing.
 pub fn name_in(text: &str, span: Span) -> &str
     ensures inside { span.from ≤ span.to → IsCharBoundary text.now span.from
         → IsCharBoundary text.now span.to

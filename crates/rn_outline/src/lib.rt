@@ -1,6 +1,8 @@
 //! Outlines of files of the whole RELAX NG compact syntax: what a file is made of, with `external`,
 //! `parent`, nested `grammar` and bare patterns (compact syntax, section 2; RELAX NG 2001, 4.5 to
 //! 4.7, 4.18, 4.19). Nothing of an outline is borrowed, so it is kept beside its text.
+//!
+//! An `AllocError`, and `Memory` of a fault, says that memory ran out. It is the only error unless said otherwise.
 #![tactic(auto)]
 
 pub mod annotations;

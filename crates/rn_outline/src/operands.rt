@@ -12,7 +12,7 @@ use crate::skips::{
 };
 use rn_text::Token;
 
-/// Reads an operand, or its front up to the bracket behind which more patterns stand.
+/// Reads an operand, or its front up to a bracket that has more patterns in it.
 pub(crate) fn operand(reader: &mut Reader, tokens: &[Token<'_>], at: usize) -> Result<usize, Stop>
     requires { at ≤ length tokens.now }
     ensures { GoesPast at (length tokens.now) result }
@@ -40,7 +40,7 @@ pub(crate) fn operand(reader: &mut Reader, tokens: &[Token<'_>], at: usize) -> R
     }
 }
 
-/// Reads an operand that begins with a keyword, or its front up to the bracket behind which more patterns stand.
+/// Reads an operand that begins with a keyword, or its front up to a bracket that has more patterns in it.
 fn keyword(reader: &mut Reader, tokens: &[Token<'_>], at: usize, word: Word) -> Result<usize, Stop>
     requires { at < length tokens.now }
     ensures { GoesPast at (length tokens.now) result }

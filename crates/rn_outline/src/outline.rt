@@ -15,8 +15,8 @@ use crate::skips::{annotation, follow, left_brace, word};
 use rn_text::Token;
 use std::alloc::Global;
 
-/// How many brackets may be open at once: as many as in a module, `MAX_OPEN` of rn_syntax, on which this crate does not
-/// stand.
+/// How many brackets may be open at once: as many as in a module, `MAX_OPEN` of rn_syntax, which this crate does not
+/// use.
 pub const MAX_OPEN: usize = 256;
 
 /// The place of the first bracket that is one too many.
@@ -50,7 +50,7 @@ fn skip_annotations(tokens: &[Token<'_>], mut at: usize) -> Result<usize, Stop>
     Ok(at)
 }
 
-/// The number of the `}` that closes the `{` of this number; `None` where none does.
+/// The index of the `}` that closes the `{` of this index; `None` where none does.
 fn closing_brace(tokens: &[Token<'_>], at: usize) -> Option<usize>
     ensures { IfSome result (λ r. r < length tokens.now) }
 {
@@ -66,7 +66,7 @@ fn closing_brace(tokens: &[Token<'_>], at: usize) -> Option<usize>
     None
 }
 
-/// Whether nothing but following annotations stands here.
+/// Whether nothing but following annotations is left here.
 fn only_follows(tokens: &[Token<'_>], mut at: usize) -> bool
     requires { at ≤ length tokens.now }
 {
@@ -79,8 +79,8 @@ fn only_follows(tokens: &[Token<'_>], mut at: usize) -> bool
     at == tokens.len()
 }
 
-/// Whether the grammar whose `{` is the token of this number is the whole file. An unclosed one counts as the whole
-/// file, so that the fault is told at its end.
+/// Whether the grammar with its `{` at this index is the whole file. An unclosed one counts as the whole file, so that
+/// the fault is reported at its end.
 fn is_whole(tokens: &[Token<'_>], at: usize) -> bool {
     match closing_brace(tokens, at) {
         Some(close) => only_follows(tokens, close + 1),
@@ -88,7 +88,7 @@ fn is_whole(tokens: &[Token<'_>], at: usize) -> bool {
     }
 }
 
-/// What a body is, that begins with the token of this number.
+/// What a body is, that begins with the token of this index.
 enum Opening {
     Items,
     Grammar,
@@ -179,7 +179,7 @@ fn early_end(reader: &Reader, count: usize) -> Stop {
     }
 }
 
-/// Reads the body that begins with the token of this number, and says what it is.
+/// Reads the body that begins with the token of this index, and says what it is.
 fn read_body(reader: &mut Reader, tokens: &[Token<'_>], at: usize) -> Result<Shape, Stop>
     requires { at ≤ length tokens.now }
 {
@@ -204,7 +204,7 @@ fn read_body(reader: &mut Reader, tokens: &[Token<'_>], at: usize) -> Result<Sha
     }
 }
 
-/// Whether each part lies within so many bytes, and begins no earlier than the one before it.
+/// Whether each part is within so many bytes, and begins no earlier than the one before it.
 fn are_in_order(parts: &[Part], len: usize) -> bool
     ensures { IsTrue result → AreInOrder len 0 parts.now }
 {
@@ -220,7 +220,7 @@ fn are_in_order(parts: &[Part], len: usize) -> bool
     true
 }
 
-/// Whether the marks of parts stand one behind another, each within its part.
+/// Whether the marks of parts follow one another, each within its part.
 fn are_apart(parts: &[Part]) -> bool
     ensures { IsTrue result → AreApart 0 parts.now }
 {
@@ -237,7 +237,7 @@ fn are_apart(parts: &[Part]) -> bool
     true
 }
 
-/// An outline whose parts stand in order, within so many bytes.
+/// An outline with its parts in order, within so many bytes.
 fn ordered_outline(outline: Outline, len: usize) -> Option<Outline>
     ensures { IfSome result (λ o. IsOutline len o) }
 {

@@ -8,7 +8,7 @@ use thiserror::Error;
 /// or a comment could be is left out.
 #[derive(Clone, Copy, Debug, PartialEq, Eq, Error)]
 pub enum Wanted {
-    /// The `{` of `list`, `mixed`, `grammar`, `div` and of the content behind a name class.
+    /// The `{` of `list`, `mixed`, `grammar`, `div` and of the content after a name class.
     #[error("`{{`")]
     Brace,
     /// The `}` that closes what is open where the tokens end.
@@ -20,7 +20,7 @@ pub enum Wanted {
     /// The `=` of a declaration, a parameter or `inherit`.
     #[error("`=`")]
     Equals,
-    /// The sign behind the name of a definition, or behind `start`.
+    /// The sign after the name of a definition, or after `start`.
     #[error("`=`, `|=` or `&=`")]
     Assignment,
     /// A literal.
@@ -43,13 +43,13 @@ pub enum OutlineFault {
     /// The first of `{`, `(` and `[` that makes more than [`MAX_OPEN`] open at once.
     #[error("more than {most} brackets are open at {at}", most = MAX_OPEN)]
     Deep {
-        /// How many bytes of the text stand before the bracket.
+        /// How many bytes of the text are before the bracket.
         at: usize,
     },
     /// The first token that can't be where it is; where the tokens end too early, the end of the last one.
     #[error("no file goes on like this at {at}")]
     Syntax {
-        /// How many bytes of the text stand before the place of the fault.
+        /// How many bytes of the text are before the fault.
         at: usize,
         /// What could come there, where it is one of few things.
         wanted: Option<Wanted>,
@@ -68,7 +68,7 @@ impl From<AllocError> for OutlineFault {
 /// Why a reader of tokens stopped.
 #[derive(Clone, Copy)]
 pub(crate) enum Stop {
-    /// At the token of this number, or at the end.
+    /// At the token of this index, or at the end.
     Stuck(usize),
     /// There too, where this could come.
     Lacking(usize, Wanted),

@@ -11,7 +11,7 @@ pub(crate) enum Mode {
     Item,
     /// An operand of a pattern.
     Operand,
-    /// The operand behind a `-`.
+    /// The operand after a `-`.
     Excepted,
     /// An operator, or the end of a pattern.
     Behind,
@@ -34,11 +34,11 @@ pub(crate) enum Frame {
     },
     /// `div`
     Div,
-    /// The overrides of the include that is the part of this number.
+    /// The overrides of the include that is the part of this index.
     Overrides {
         include: usize,
     },
-    /// The nested grammar that is the part of this number, with what the reader knew before it.
+    /// The nested grammar that is the part of this index, with what the reader knew before it.
     Grammar {
         part: usize,
         outer: usize,
@@ -55,13 +55,13 @@ pub(crate) struct Reader {
     pub(crate) parts: Vec<Part>,
     pub(crate) frames: Vec<Frame>,
     pub(crate) mode: Mode,
-    /// The number of the grammar that is read; 0 is the file's own.
+    /// The index of the grammar that is read; 0 is the file's own.
     pub(crate) grammar: usize,
     /// How many grammars there are so far.
     pub(crate) grammars: usize,
-    /// The part that is the include whose overrides are read.
+    /// The include of which overrides are read, as a part.
     pub(crate) within: Option<usize>,
-    /// The part that is the definition whose body is read.
+    /// The definition of which the body is read, as a part.
     pub(crate) body: Option<usize>,
 }
 

@@ -122,7 +122,7 @@ fn sign_of(token: &Token<'_>) -> Sign {
     }
 }
 
-/// What the reader sees of the token of this number.
+/// What the reader sees of the token of this index.
 pub(crate) fn sign_at(tokens: &[Token<'_>], at: usize) -> Sign
     ensures { IsInside result at (length tokens.now) }
 {
@@ -140,7 +140,7 @@ pub(crate) fn span(tokens: &[Token<'_>], from: usize, to: usize) -> Span {
     }
 }
 
-/// The byte at which the token of this number begins; at the end, that at which the last one ends.
+/// The byte at which the token of this index begins; at the end, that at which the last one ends.
 pub(crate) fn begin(tokens: &[Token<'_>], at: usize) -> usize {
     match tokens.get(at) {
         Some(token) => token.start,

@@ -57,7 +57,7 @@ pub(crate) fn skip_annotation(tokens: &[Token<'_>], at: usize) -> Result<usize, 
     }
 }
 
-/// What follows a name and `[ .. ]`, behind `>>`.
+/// What follows a name and `[ .. ]`, after `>>`.
 pub(crate) fn follow(tokens: &[Token<'_>], at: usize) -> Result<usize, Stop>
     requires { at ≤ length tokens.now }
     ensures { GoesPast at (length tokens.now) result }
@@ -68,7 +68,7 @@ pub(crate) fn follow(tokens: &[Token<'_>], at: usize) -> Result<usize, Stop>
     }
 }
 
-/// What follows the `{` of an element or an attribute, whose name class comes (compact syntax, section 2,
+/// What follows the `{` of an element or an attribute, after which the name class comes (compact syntax, section 2,
 /// nameClass).
 pub(crate) fn name_class(tokens: &[Token<'_>], mut at: usize) -> Result<usize, Stop>
     requires { at ≤ length tokens.now }
@@ -104,7 +104,7 @@ pub(crate) fn name_class(tokens: &[Token<'_>], mut at: usize) -> Result<usize, S
     }
 }
 
-/// Whether the token of this number is `}`.
+/// Whether the token of this index is `}`.
 fn is_right_brace(tokens: &[Token<'_>], at: usize) -> bool
     ensures { IsTrue result → at < length tokens.now }
 {
@@ -125,7 +125,7 @@ fn param(tokens: &[Token<'_>], at: usize) -> Result<usize, Stop>
     segments(tokens, value)
 }
 
-/// What follows the parameters of a datatype, behind their `{`.
+/// What follows the parameters of a datatype, after their `{`.
 pub(crate) fn params(tokens: &[Token<'_>], mut at: usize) -> Result<usize, Stop>
     requires { at ≤ length tokens.now }
     ensures { GoesPast at (length tokens.now) result }

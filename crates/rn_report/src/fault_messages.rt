@@ -11,6 +11,7 @@ use rn_lift::{Lifted, MAX_EXCEPTS, MAX_GROWTH};
 use rn_modset::{AddFault, MAX_CONTRIBUTIONS, MAX_NAME, MAX_TEXT};
 use rn_outline::{PartKind, name_in};
 use rn_scopes::{LiftFault, LiftFaultKind, MAX_PLACES};
+use rn_translate::RngFaultKind;
 use rn_xml::{FaultSentence, XmlFault, XmlFaultKind};
 use std::alloc::{AllocError, Global};
 
@@ -53,19 +54,45 @@ pub fn reading_message(
 /// What a message on a fault of reading is about.
 fn reading_kind(kind: &SourceFaultKind) -> MessageKind {
     match kind {
-        SourceFaultKind::File(_) | SourceFaultKind::Target { .. } => MessageKind::Unreadable,
-        SourceFaultKind::Reference(_) | SourceFaultKind::Unmapped(_) | SourceFaultKind::Outside =>
-            MessageKind::Reference,
+        SourceFaultKind::File(_)
+        | SourceFaultKind::Target { .. }
+        | SourceFaultKind::Mapped { .. } => MessageKind::Unreadable,
+        SourceFaultKind::Reference(_)
+        | SourceFaultKind::Unmapped(_)
+        | SourceFaultKind::Elsewhere { .. }
+        | SourceFaultKind::Delegated { .. }
+        | SourceFaultKind::Outside => MessageKind::Reference,
         SourceFaultKind::Loop(_) => MessageKind::FileLoop,
         SourceFaultKind::Encoding | SourceFaultKind::Utf16 => MessageKind::Encoding,
         SourceFaultKind::Lexical => MessageKind::Lexical,
-        SourceFaultKind::Syntax(_) | SourceFaultKind::Document(_) | SourceFaultKind::Schema(_) =>
-            MessageKind::Syntax,
+        SourceFaultKind::Syntax(_) => MessageKind::Syntax,
+        SourceFaultKind::Document(kind) => document_kind(*kind),
+        SourceFaultKind::Schema(kind) => schema_kind(kind),
         SourceFaultKind::Deep | SourceFaultKind::Count | SourceFaultKind::Name => {
             MessageKind::Limit
         }
         SourceFaultKind::Twice => MessageKind::Duplicate,
         SourceFaultKind::Unsound => MessageKind::Internal,
+    }
+}
+
+/// What a message on a document that is no XML is about.
+fn document_kind(kind: XmlFaultKind) -> MessageKind {
+    match kind {
+        XmlFaultKind::Encoding | XmlFaultKind::NotEncoded(_) => MessageKind::Encoding,
+        XmlFaultKind::Character => MessageKind::Lexical,
+        XmlFaultKind::Prefix => MessageKind::Prefix,
+        XmlFaultKind::Deep => MessageKind::Limit,
+        _ => MessageKind::Syntax,
+    }
+}
+
+/// What a message on a document that is no schema is about.
+fn schema_kind(kind: &RngFaultKind) -> MessageKind {
+    match kind {
+        RngFaultKind::Prefix(_) => MessageKind::Prefix,
+        RngFaultKind::Large => MessageKind::Limit,
+        _ => MessageKind::Syntax,
     }
 }
 
@@ -83,6 +110,15 @@ fn reading_sentence(
         SourceFaultKind::File(fault) => return format!(in alloc; "{fault}"),
         SourceFaultKind::Target { path, fault } => {
             return target_sentence(alloc, path.as_str(), *fault);
+        }
+        SourceFaultKind::Mapped { uri, path, fault } => {
+            return mapped_sentence(alloc, uri.as_str(), path.as_str(), *fault);
+        }
+        SourceFaultKind::Elsewhere { uri, target } => {
+            return elsewhere_sentence(alloc, uri.as_str(), target.as_str());
+        }
+        SourceFaultKind::Delegated { uri, catalog } => {
+            return delegated_sentence(alloc, uri.as_str(), catalog.as_str());
         }
         SourceFaultKind::Reference(fault) => return format!(in alloc; "{fault}"),
         SourceFaultKind::Document(kind) => return document_sentence(
@@ -123,6 +159,29 @@ fn reading_sentence(
 fn target_sentence(alloc: Global, path: &str, fault: FileFault) -> Result<String, AllocError> {
     let path = shown_place(alloc, path)?;
     format!(in alloc; "{path}: {fault}")
+}
+
+/// The sentence on a file to which a map leads and that can't be read.
+fn mapped_sentence(
+    alloc: Global,
+    uri: &str,
+    path: &str,
+    fault: FileFault,
+) -> Result<String, AllocError> {
+    let (uri, path) = (shown_place(alloc, uri)?, shown_place(alloc, path)?);
+    format!(in alloc; "{path}: {fault}; {uri} leads there")
+}
+
+/// The sentence on a URI from which a catalog leads to what is no file.
+fn elsewhere_sentence(alloc: Global, uri: &str, target: &str) -> Result<String, AllocError> {
+    let (uri, target) = (shown_place(alloc, uri)?, shown_place(alloc, target)?);
+    format!(in alloc; "a catalog leads from {uri} to {target}, and nothing is fetched")
+}
+
+/// The sentence on a URI that a catalog leaves to another one.
+fn delegated_sentence(alloc: Global, uri: &str, catalog: &str) -> Result<String, AllocError> {
+    let (uri, catalog) = (shown_place(alloc, uri)?, shown_place(alloc, catalog)?);
+    format!(in alloc; "a catalog leaves {uri} to {catalog}, which must be given by --catalog")
 }
 
 /// The sentence on a URI that no map knows.
@@ -197,7 +256,7 @@ fn push_path(sentence: &mut String, pages: &[Page<'_>], file: usize) -> Result<(
 pub fn is_unread(fault: &SourceFault) -> bool {
     matches!(
         &fault.kind,
-        SourceFaultKind::File(_) | SourceFaultKind::Target { .. }
+        SourceFaultKind::File(_) | SourceFaultKind::Target { .. } | SourceFaultKind::Mapped { .. }
     )
 }
 

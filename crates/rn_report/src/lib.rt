@@ -7,6 +7,7 @@
 #![tactic(auto)]
 
 mod brought;
+mod catalog_messages;
 mod check_sentences;
 mod cursor;
 mod defined;
@@ -21,6 +22,7 @@ mod lacks;
 mod loop_sites;
 mod message_kinds;
 mod near_names;
+mod nearest_keys;
 mod outside_names;
 mod placed_definitions;
 mod report;
@@ -29,6 +31,7 @@ mod shown_lines;
 mod sites;
 mod token_sentences;
 
+pub use catalog_messages::{catalog_text, is_unread_catalog};
 pub use fault_messages::{is_unread, set_message};
 pub use file_messages::{lift_messages, reading_messages};
 pub use formats::{Format, message_text};

@@ -79,12 +79,18 @@ impl<'n> NearestName<'n> {
     /// That a name is not defined, with the nearest one.
     pub fn sentence(&self, alloc: Global, name: &str) -> Result<String, AllocError> {
         let name = shown_name(alloc, name)?;
+        let advice = self.advice(alloc)?;
+        format!(in alloc; "`{name}` is not defined{advice}")
+    }
+
+    /// What is said of the nearest name behind a sentence; nothing where there is none.
+    pub fn advice(&self, alloc: Global) -> Result<String, AllocError> {
         match self.found {
             Some((_, near)) => {
                 let near = shown_name(alloc, near)?;
-                format!(in alloc; "`{name}` is not defined: did you mean `{near}`?")
+                format!(in alloc; ": did you mean `{near}`?")
             }
-            None => format!(in alloc; "`{name}` is not defined"),
+            None => Ok(String::new(alloc)),
         }
     }
 }

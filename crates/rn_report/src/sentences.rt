@@ -12,7 +12,7 @@ use crate::further_refusals::{Extent, FurtherRefusal, RefusalKind, refusals_from
 use crate::general_sentences::{general_kind, general_sentence};
 use crate::loop_sites::loop_of;
 use crate::message_kinds::MessageKind;
-use crate::near_names::NearestName;
+use crate::nearest_keys::{provided_advice, undefined_name};
 use crate::report::{
     MAX_TOLD, Message, Messages, Page, Spot, is_xml_page, place_text, shown_name, source_pages,
 };
@@ -211,39 +211,6 @@ fn site_text(telling: &Telling<'_>, site: Site) -> Result<String, AllocError> {
     place_text(telling.alloc, telling.pages, telling.sites.spot(site))
 }
 
-/// A name that is not defined, with the nearest one of its grammar.
-fn undefined_name(telling: &Telling<'_>, finding: Finding<'_>) -> Result<String, AllocError> {
-    let mut nearest = NearestName::new();
-    let stem = stem_of(telling, finding);
-    for one in telling.defined {
-        offer_key(telling, finding.name, stem, one.key, &mut nearest)?;
-    }
-    nearest.sentence(telling.alloc, finding.name)
-}
-
-/// What stands in the modules before a name that a file writes at the site of a finding.
-fn stem_of<'t>(telling: &Telling<'t>, finding: Finding<'_>) -> &'t str {
-    let name = finding.here.and_then(|site| telling.sites.used_name(site));
-    name.and_then(|name| name.strip_suffix(finding.name))
-        .unwrap_or("")
-}
-
-/// Offers a key as the file writes it in the place of a name, if it is one of the grammar whose names have this stem.
-fn offer_key<'t>(
-    telling: &Telling<'t>,
-    name: &str,
-    stem: &str,
-    key: &'t str,
-    nearest: &mut NearestName<'t>,
-) -> Result<(), AllocError> {
-    match key.strip_prefix(stem) {
-        Some(other) if !key.is_empty() && spelled_key(telling, key) == other => {
-            nearest.offer(telling.alloc, name, other)
-        }
-        _ => Ok(()),
-    }
-}
-
 /// Two definitions by `=`, or one that two includes bring.
 fn plain_twice(telling: &Telling<'_>, finding: Finding<'_>) -> Result<String, AllocError> {
     let name = shown_name(telling.alloc, finding.name)?;
@@ -306,8 +273,9 @@ fn unfounded_override(telling: &Telling<'_>, finding: Finding<'_>) -> Result<Str
     let name = shown_name(telling.alloc, finding.name)?;
     let file = included_path(telling, include);
     let place = site_text(telling, include)?;
+    let advice = provided_advice(telling, finding, include)?;
     format!(in telling.alloc;
-        "`{name}` replaces nothing: {file}, which is included in {place}, does not define it"
+        "`{name}` replaces nothing: {file}, which is included in {place}, does not define it{advice}"
     )
 }
 

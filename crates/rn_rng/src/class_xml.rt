@@ -150,7 +150,7 @@ pub(crate) fn write_class(
     }
 }
 
-/// Writes an except, whose children are in a choice anyhow.
+/// Writes an except: its children need no choice around them.
 #[cycle(class)]
 fn write_except(
     writer: &mut Writer,
@@ -169,7 +169,7 @@ fn write_except(
     writer.close(place.level, "except");
 }
 
-/// Writes a choice: its members alone where they are in one anyhow.
+/// Writes a choice: its members alone where they are in one already.
 #[cycle(class)]
 fn write_choice(
     writer: &mut Writer,

@@ -1,4 +1,4 @@
-// What stands for characters that XML reads as something else (XML 1.0 Fifth Edition, 2.4, 2.11 and 3.3.3).
+// References for characters that XML reads as something else (XML 1.0 Fifth Edition, 2.4, 2.11 and 3.3.3).
 ghost use Rattle.std.specs.Prelude.{◌≡◌, ◌<◌, ◌∷◌, [], MatchOption};
 ghost use Rattle.std.specs.List.{list_all};
 ghost use Rattle.rn_rng.specs.Layout as layout;
@@ -12,7 +12,7 @@ pub(crate) enum Holder {
 }
 
 impl Holder {
-    /// The reference that stands for a character, where it does not stand for itself.
+    /// The reference for a character that cannot be written as it is.
     pub fn reference(self, c: char) -> Option<&'static str>
         ensures { MatchOption result (layout.reference (holder_view self) c ≡ c ∷ [])
             (λ r. (c < 128) × (r.now ≡ layout.reference (holder_view self) c)) }
@@ -29,7 +29,7 @@ impl Holder {
         }
     }
 
-    /// The reference that stands for a double quote.
+    /// The reference for a double quote.
     fn quote_reference(self) -> Option<&'static str>
         ensures { MatchOption result (layout.quote_reference (holder_view self) ≡ 34 ∷ [])
             (λ r. r.now ≡ layout.quote_reference (holder_view self)) }
@@ -41,14 +41,14 @@ impl Holder {
     }
 }
 
-/// Whether no byte of the text is one for which a reference may stand.
+/// Whether no byte of the text may need a reference.
 pub(crate) fn is_plain(text: &str) -> bool
     ensures { result ≡ list_all is_plain_byte text.now }
 {
     text.as_bytes().iter().all(|b| is_plain_byte(*b))
 }
 
-/// Whether no reference stands for the byte, wherever it is.
+/// Whether the byte needs no reference, wherever it is.
 fn is_plain_byte(b: u8) -> bool
     ensures { result ≡ is_plain_byte b }
 {

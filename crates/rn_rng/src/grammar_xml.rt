@@ -17,11 +17,11 @@ use crate::xml_fault::XmlFault;
 use rn_syntax::{Item, Method, Module, Operator, Pat, includes};
 use std::alloc::{AllocError, Global};
 
-/// What stands before the first item.
+/// What is written before the first item.
 const HEAD: &str =
     "<?xml version=\"1.0\" encoding=\"UTF-8\"?>\n<grammar xmlns=\"http://relaxng.org/ns/structure/1.0\" datatypeLibrary=\"http://www.w3.org/2001/XMLSchema-datatypes\">\n";
 
-/// What stands behind the last item.
+/// What is written after the last item.
 const END: &str = "</grammar>\n";
 
 /// The XML text of a module that inherits no namespace. `NoSchema` where the module includes another; `TooLarge` where
@@ -108,7 +108,7 @@ fn write_div(writer: &mut Writer, namespaces: &Namespaces<'_, '_>, level: usize,
     }
 }
 
-/// Writes a definition, whose pattern is in a group anyhow. Does nothing once the writer has stopped.
+/// Writes a definition: its pattern needs no group around it. Does nothing once the writer has stopped.
 fn write_definition(
     writer: &mut Writer,
     namespaces: &Namespaces<'_, '_>,

@@ -10,8 +10,8 @@ ghost use Rattle.rn_rng.specs.Translation.{xml_of};
 ghost use Rattle.rn_rng.specs.SpellableItems.{IsSpellableRoot};
 ghost use Rattle.rn_rng.specs.XmlDocument.{IsXml};
 
-/// The text of a root whose names are names and whose texts are XML characters is a document of XML 1.0 (Fifth Edition)
-/// in UTF-8 with the root as its infoset.
+/// If the names of a root are names of XML and its texts XML characters, its text is a document of XML 1.0 (Fifth
+/// Edition) in UTF-8 with the root as its infoset.
 pub fn xml_is_a_document()
     ensures { (x : Item) → IsSpellableRoot x → IsXml (xml_text x) x }
 {}

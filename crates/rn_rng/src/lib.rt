@@ -1,6 +1,6 @@
 //! The XML syntax of RELAX NG: a module of the compact syntax as one canonical XML text.
 //!
-//! [`module_xml`] writes the XML that the compact syntax's specification says a module stands for, in one spelling;
+//! [`module_xml`] writes the XML that a module means by the compact syntax's specification, in one spelling;
 //! [`schema_xml`] does so for the text of a module, such as a printed schema.
 #![tactic(auto)]
 

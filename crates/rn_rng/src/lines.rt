@@ -10,7 +10,7 @@ use crate::tag::{Attribute, Tag};
 use crate::xml_fault::XmlFault;
 use std::alloc::Global;
 
-/// The most bytes of an XML text. URIs stand at each place in it, so it may be longer than its schema by any factor.
+/// The most bytes of an XML text. URIs are repeated at each use, so it may be longer than its schema by any factor.
 pub const MAX_XML: usize = 67_108_864;
 
 /// The most levels by which a line is indented, each by two spaces.
@@ -119,7 +119,7 @@ impl Writer {
         }
     }
 
-    /// Appends a character, or the reference that stands for it.
+    /// Appends a character, or the reference for it.
     fn put_reference(&mut self, holder: Holder, c: char)
         ensures { Writes (escaped (holder_view holder) (encode_utf8 c)) self.old self.new }
     {
@@ -223,7 +223,7 @@ impl Writer {
         self.empty(level, &Tag::bare(element));
     }
 
-    /// Appends the line of an element that holds two texts in a row.
+    /// Appends the line of an element that holds two texts, one after the other.
     pub fn line(&mut self, level: usize, tag: &Tag<'_>, prefix: &str, text: &str)
         ensures { Writes (tag_front level tag.now.element.now (tag_attributes tag.now)
             ++ (codes ">" ++ (escaped in_element (prefix.now ++ text.now)

@@ -11,7 +11,7 @@ use crate::tag::Attribute;
 use rn_syntax::{Bindings, Datatype, Declaration, Uri, XML_URI, XSD_URI};
 use std::alloc::{AllocError, Global};
 
-/// A URI, by what says it: so two that one declaration binds are known to be the same without a look at them.
+/// A URI, by what says it: so two that one declaration binds are known to be the same without comparing them.
 #[derive(Clone, Copy, PartialEq, Eq)]
 pub(crate) enum UriSource {
     /// The empty URI.

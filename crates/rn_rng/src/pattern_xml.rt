@@ -88,8 +88,8 @@ fn namespace_inside(
     }
 }
 
-/// Writes the start tag of an element, with one name as its attribute and with any other class behind it, and answers
-/// the place behind that. A name without prefix is in the namespace `own`; without `ns` a name would be in `taken`.
+/// Writes the start tag of an element, with one name as its attribute, any other class after it, and answers the place
+/// after that. A name without prefix is in the namespace `own`; without `ns` a name would be in `taken`.
 fn open_head(
     writer: &mut Writer,
     namespaces: &Namespaces<'_, '_>,
@@ -211,7 +211,7 @@ pub(crate) fn write_pattern(
     }
 }
 
-/// Writes an element, whose content is in a group anyhow; a name without prefix is in the default namespace.
+/// Writes an element: its content needs no group around it. A name without prefix is in the default namespace.
 #[cycle(pattern)]
 fn write_element(
     writer: &mut Writer,
@@ -271,7 +271,7 @@ fn write_attribute(
     writer.close(place.level, "attribute");
 }
 
-/// Writes an element of this name round a pattern that is in a group anyhow.
+/// Writes an element of this name round a pattern that is in a group already.
 #[cycle(pattern)]
 fn write_around(
     writer: &mut Writer,
@@ -292,7 +292,7 @@ fn write_around(
     writer.close(place.level, element);
 }
 
-/// Writes a group, an interleave or a choice: its members alone where they are in one anyhow.
+/// Writes a group, an interleave or a choice: its members alone where they are in one already.
 #[cycle(pattern)]
 fn write_chain(
     writer: &mut Writer,
@@ -357,7 +357,7 @@ fn write_data_but(
     writer.close(place.level, "data");
 }
 
-/// Writes an except, whose children are in a choice anyhow.
+/// Writes an except: its children need no choice around them.
 #[cycle(pattern)]
 fn write_except(
     writer: &mut Writer,

@@ -1,4 +1,4 @@
-// Where an element stands: how deep, and what it inherits there (RELAX NG 2001, 4.3, 4.9 and 4.12).
+// Where an element is: how deep, and what it inherits there (RELAX NG 2001, 4.3, 4.9 and 4.12).
 ghost use Rattle.std.specs.Prelude.{◌≡◌, ◌≢◌, false, Some, None, IsTrue};
 ghost use Rattle.rn_rng.specs.Layout as layout;
 ghost use Rattle.rn_rng.specs.declared.namespaces.UriSource.TheVariants.{Empty, Xsd};
@@ -7,12 +7,12 @@ use crate::lines::deeper;
 use crate::namespaces::UriSource;
 use rn_syntax::Operator;
 
-/// Where an element stands.
+/// Where an element is.
 #[derive(Clone, Copy)]
 pub(crate) struct Place {
     /// How many elements are open, as [`deeper`] counts them.
     pub level: usize,
-    /// The connector in which the children of the element around are anyhow.
+    /// The connector in which the children of the element around are already.
     pub wrapper: Option<Operator>,
     /// The nearest `ns` around, or the empty one where there is none.
     pub namespace: UriSource,
@@ -34,7 +34,7 @@ impl Place {
         }
     }
 
-    /// Whether children are in this connector anyhow.
+    /// Whether children are in this connector already.
     pub fn is_in(self, operator: Operator) -> bool
         ensures yes { IsTrue result → self.wrapper ≡ Some operator }
         ensures no { result ≡ false → self.wrapper ≢ Some operator }
@@ -57,7 +57,7 @@ impl Place {
         }
     }
 
-    /// The same place, where children are in this connector anyhow.
+    /// The same place, where children are in this connector already.
     pub fn wrapped(self, wrapper: Operator) -> Place
         ensures { result ≡ record self { wrapper = Some wrapper } }
     {

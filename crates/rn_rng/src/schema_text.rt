@@ -44,7 +44,7 @@ fn text_tokens<'a>(alloc: Global, text: &'a str) -> Result<Vec<Token<'a>>, XmlFa
     }
 }
 
-/// What a text is refused for that has this fault.
+/// Why a text is refused, if it has this fault.
 fn text_fault(fault: &TextFault) -> XmlFault
     ensures { (text : Text) → HasFault text fault.now → IsUnread text result }
 {
@@ -67,7 +67,7 @@ fn text_module<'a>(alloc: Global, text: &str, tokens: &[Token<'a>]) -> Result<Mo
     }
 }
 
-/// What a text is refused for whose tokens have this fault.
+/// Why a text is refused, if its tokens have this fault.
 fn syntax_fault(fault: &SyntaxFault) -> XmlFault
     ensures { (text : Text) (tokens : List source.Token) → IsUtf8 text
         → HasTokens (chars text) (map lexeme_of tokens) → IsFault tokens fault.now

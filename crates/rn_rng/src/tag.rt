@@ -7,7 +7,7 @@ ghost use Rattle.rn_rng.specs.inside.Views.{attribute_view, tag_attributes};
 #[derive(Clone, Copy)]
 pub(crate) struct Attribute<'a> {
     pub name: &'a str,
-    /// What stands before the value: a prefix and its colon, or nothing.
+    /// What is written before the value: a prefix and its colon, or nothing.
     pub prefix: &'a str,
     pub value: &'a str,
 }

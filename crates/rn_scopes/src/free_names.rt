@@ -1,4 +1,4 @@
-// Whether the names that were made are free.
+// Whether the generated names are free.
 ghost use Rattle.std.specs.Prelude.{◌≡◌, ◌<◌, false, length, slice_index, take, IsTrue, IsFalse, string_bytes};
 ghost use Rattle.std.specs.BTreeSet.{contains_text};
 ghost use Rattle.rn_scopes.specs.FreeNames.{AreFree, FileIsFree, IsFreeName, IsNoOwn, PartIsFree};
@@ -10,7 +10,7 @@ use crate::units::Units;
 use rn_outline::{Part, unquoted_name};
 use std::collections::BTreeSet;
 
-/// Whether no name that the files write is one that was made for a scope, or for a start.
+/// Whether no name that the files write is one generated for a scope, or for a start.
 pub(crate) fn are_free(units: &Units<'_>, names: &Names) -> bool
     ensures { IsTrue result
         → AreFree (files_of units.now) names.now.made_stems (string_bytes names.now.start) }
@@ -23,7 +23,7 @@ pub(crate) fn are_free(units: &Units<'_>, names: &Names) -> bool
     true
 }
 
-/// Whether no name that one file writes is one that was made for a scope, or for a start.
+/// Whether no name that one file writes is one generated for a scope, or for a start.
 fn is_free_file(given: &Given<'_>, names: &Names) -> bool
     ensures { IsTrue result
         → FileIsFree names.now.made_stems (string_bytes names.now.start) given.now.file }
@@ -51,7 +51,7 @@ fn is_free_part(text: &str, part: &Part, names: &Names) -> bool
     }
 }
 
-/// Whether a name is neither that of a start nor one with a stem that was made.
+/// Whether a name is neither that of a generated start nor one with a generated stem.
 fn is_free(name: &str, names: &Names) -> bool
     ensures { IsTrue result
         → IsFreeName names.now.made_stems (string_bytes names.now.start) name.now }
@@ -71,7 +71,7 @@ fn is_own(own: &BTreeSet<String>, name: &str) -> bool
     false
 }
 
-/// Whether a dot stands at a byte, and one of these stems before it.
+/// Whether there is a dot at a byte, and one of these stems before it.
 fn ends_stem(own: &BTreeSet<String>, name: &str, at: usize) -> bool
     requires { at < length name.now }
     ensures { IsFalse result → slice_index name.now at ≡ 46

@@ -16,24 +16,24 @@ pub struct Lifting<'a> {
     pub text: &'a str,
     /// The outline of the text, from [`rn_outline::read_outline`].
     pub outline: &'a Outline,
-    /// For each external and include of the outline, in its order, the number of the file that is
+    /// For each external and include of the outline, in its order, the index of the file that is
     /// meant.
     pub targets: &'a [usize],
 }
 
-/// A file, with what its declarations bind and the number of its first unit.
+/// A file, with what its declarations bind and the index of its first unit.
 #[derive(Drop)]
 pub struct Given<'a> {
     /// The file, as it was given.
     pub file: Lifting<'a>,
-    /// For each part of the outline, the number of the file that it names, if it names one.
+    /// For each part of the outline, the index of the file that it names, if it names one.
     pub targets: Vec<Option<usize>>,
     pub(crate) bindings: OutlineBindings,
     pub(crate) first: usize,
 }
 
 impl<'a> Given<'a> {
-    /// A file, whose first unit has this number.
+    /// A file, and the index of its first unit.
     pub(crate) fn of(alloc: Global, file: Lifting<'a>, first: usize) -> Result<Self, AllocError>
         ensures file { IfOk result (λ g. g.file ≡ file.entry) }
         ensures targets { IfOk result HasTargets }
@@ -47,7 +47,7 @@ impl<'a> Given<'a> {
         })
     }
 
-    /// The number of the file that the part of this number names.
+    /// The index of the file that the part of this index names.
     pub fn target(&self, part: usize) -> Option<usize>
         ensures { result ≡ target_of self.now part }
     {
@@ -57,7 +57,7 @@ impl<'a> Given<'a> {
         }
     }
 
-    /// The part of this number in the outline, if there is one.
+    /// The part of this index in the outline, if there is one.
     pub fn part(&self, number: usize) -> Option<&'a Part> {
         let outline = self.file.outline;
         outline.parts.get(number)
@@ -69,7 +69,7 @@ impl<'a> Given<'a> {
     }
 }
 
-/// For each part, the number that is given for it: those that name a file have these in turn.
+/// The file of each part, by its index: parts that name a file take the given ones in turn, others have none.
 fn targets_of(
     alloc: Global,
     parts: &[Part],

@@ -1,6 +1,8 @@
 //! Which modules files of the whole RELAX NG compact syntax become: the grammars of the files, the
-//! scopes and namespaces in which they are placed, and the names that are made for all of these
+//! scopes and namespaces in which they are placed, and the names generated for all of these
 //! (RELAX NG 2001, 4.6, 4.7, 4.8, 4.18).
+//!
+//! An `AllocError`, and `Memory` of a fault, says that memory ran out. It is the only error unless said otherwise.
 #![tactic(auto)]
 
 mod free_names;

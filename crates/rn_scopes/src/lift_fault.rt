@@ -5,11 +5,11 @@ use rn_outline::Grouped;
 use std::alloc::{AllocError, AllocFailed};
 use thiserror::Error;
 
-/// Why files can't be lifted: the number of the file, and the byte of its text, counted from its
+/// Why files can't be lifted: the index of the file, and the byte of its text, counted from its
 /// start.
 #[derive(Debug, Drop, PartialEq, Eq)]
 pub struct LiftFault {
-    /// The number of the file among those that are lifted.
+    /// The index of the file among those that are lifted.
     pub file: usize,
     /// The byte of the file's text, counted from its start.
     pub at: usize,
@@ -26,8 +26,8 @@ pub enum LiftFaultKind {
     /// `parent` outside a grammar that is in another one (RELAX NG 2001, 4.18).
     #[error("no grammar is around this one")]
     NoParent,
-    /// A reference in an except comes to more than data, values and choices of them (RELAX NG 2001, 7.1.4), or
-    /// comes back to itself there.
+    /// A reference in an except names more than data, values and choices of them (RELAX NG 2001, 7.1.4), or comes
+    /// back to itself there.
     #[error("what this stands for can't be excepted")]
     ExceptReference,
     /// `inherit =` of an external names a prefix that no declaration of the file binds (compact
@@ -38,10 +38,10 @@ pub enum LiftFaultKind {
     #[error("no file is given for this")]
     NoFile,
     /// A reference to a name without a definition (RELAX NG 2001, 4.18): one in an except, or in a definition that
-    /// one in an except comes to. The place is that of the reference to this name.
+    /// one in an except leads to. The place is that of the reference to this name.
     #[error("nothing defines this")]
     Undefined,
-    /// The texts that references in excepts come to would have more bytes than `MAX_EXCEPTS` of rn_lift.
+    /// The texts that replace references in excepts would have more bytes than `MAX_EXCEPTS` of rn_lift.
     #[error("too long definitions are excepted")]
     Long,
     /// The files would make more than [`MAX_PLACES`] modules.
@@ -50,12 +50,12 @@ pub enum LiftFaultKind {
     /// The modules of the files' places would have over `MAX_GROWTH` of rn_lift more bytes than the files.
     #[error("modules much longer than the files")]
     Grown,
-    /// The outline is not that of the text: a name or a literal lies not in it, or before another
-    /// one that stands before it in the outline.
+    /// The outline is not that of the text: a name or a literal is outside of it, or not in the order of
+    /// the outline.
     #[error("an outline of another text")]
     Outline,
-    /// What was made does not keep what is promised of its names and links. No files are known for
-    /// which this is so; it is looked at before an answer is given.
+    /// What was made breaks what is promised of its names and links. No files are known for which this
+    /// is so; it is checked before an answer is given.
     #[error("the names that were made are not free")]
     Unsound,
     /// A request for memory was refused. The place means nothing.

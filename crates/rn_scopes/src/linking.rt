@@ -4,7 +4,7 @@ use crate::lift_fault::{LiftFault, LiftFaultKind};
 use crate::units::Units;
 use rn_outline::Span;
 
-/// A place that is looked at while its links are made.
+/// A place of which the links are made.
 #[derive(Clone, Copy)]
 pub(crate) struct Here {
     pub(crate) place: usize,
@@ -14,7 +14,7 @@ pub(crate) struct Here {
     pub(crate) file: usize,
 }
 
-/// An external or an include: the file that it names, the prefix behind `inherit =`, and the byte of
+/// An external or an include: the file that it names, the prefix after `inherit =`, and the byte of
 /// its literal.
 #[derive(Clone, Copy)]
 pub(crate) struct Named {

@@ -1,4 +1,4 @@
-// Marks on numbered nodes, and how they spread along rows.
+// Marks on numbered nodes, and how they spread along edges.
 
 use std::alloc::{AllocError, Global};
 
@@ -18,9 +18,8 @@ pub(crate) fn marked_nodes(alloc: Global, marks: &[bool]) -> Result<Vec<usize>, 
     Ok(marked)
 }
 
-/// The marks, and all nodes that rows lead to from those that wait, which are marked. A number in a row that is no node
-/// is passed over: `reached_nodes` of rn_pattern asks for a proof that there is none, which units of any outlines don't
-/// give.
+/// The marks, with all nodes marked that edges lead to from those that wait. An edge to no node is passed over:
+/// `reached_nodes` of rn_pattern asks for a proof that there is none, which units of any outlines don't give.
 pub(crate) fn spread(
     mut marks: Vec<bool>,
     mut waiting: Vec<usize>,
@@ -37,7 +36,7 @@ pub(crate) fn spread(
     Ok(marks)
 }
 
-/// Marks the nodes of a row; those that were not marked wait.
+/// Marks the nodes of an adjacency list; those that were not marked wait.
 pub(crate) fn mark_row(
     marks: &mut Vec<bool>,
     waiting: &mut Vec<usize>,

@@ -1,4 +1,4 @@
-// Namespaces that are inherited, by numbers.
+// Namespaces that are inherited, by index.
 
 use crate::given::Given;
 use crate::outline_bindings::Namespace;
@@ -6,7 +6,7 @@ use rn_outline::{Span, name_in};
 use std::alloc::{AllocError, Global};
 use std::collections::BTreeMap;
 
-/// Namespaces, each with its number. The empty one is 0.
+/// Namespaces, each with its index. The empty one is 0.
 #[derive(Drop)]
 pub(crate) struct Namespaces {
     uris: Vec<String>,
@@ -23,7 +23,7 @@ impl Namespaces {
         Ok(namespaces)
     }
 
-    /// The number of a namespace. It gets one here, if it has none yet.
+    /// The index of a namespace. It gets one here, if it has none yet.
     pub(crate) fn number(&mut self, alloc: Global, uri: &str) -> Result<usize, AllocError> {
         if let Some(number) = self.numbers.get(uri) {
             return Ok(*number);
@@ -34,7 +34,7 @@ impl Namespaces {
         Ok(number)
     }
 
-    /// The namespace that has a number; the empty one, if none has it.
+    /// The namespace of an index; the empty one, if none has it.
     pub(crate) fn uri(&self, number: usize) -> &str {
         match self.uris.get(number) {
             Some(uri) => uri.as_str(),
@@ -42,7 +42,7 @@ impl Namespaces {
         }
     }
 
-    /// The number of what a file's declaration says, where this is handed to the file.
+    /// The index of the namespace that a file's declaration means, if the file inherits this one.
     fn resolve(
         &mut self,
         alloc: Global,
@@ -55,8 +55,8 @@ impl Namespaces {
         }
     }
 
-    /// The namespace that an external or an include of a file hands on (RELAX NG 2001, 4.8), where this one is handed
-    /// to the file: that of the prefix behind `inherit =`, or the default one. `None` where nothing binds the prefix.
+    /// The namespace inherited through an external or an include of a file (RELAX NG 2001, 4.8), if the file inherits
+    /// this one: that of the prefix after `inherit =`, or the default one. `None` where nothing binds the prefix.
     pub(crate) fn handed_namespace(
         &mut self,
         alloc: Global,

@@ -5,7 +5,7 @@ use rn_syntax::{XML_URI, XSD_URI};
 use std::alloc::{AllocError, Global};
 use std::collections::BTreeMap;
 
-/// The default namespace and the prefixes that the declarations of an outline bind, each by the number of its first
+/// The default namespace and the prefixes that the declarations of an outline bind, each by the index of its first
 /// declaration.
 #[derive(Drop)]
 pub(crate) struct OutlineBindings {
@@ -14,7 +14,7 @@ pub(crate) struct OutlineBindings {
     libraries: BTreeMap<String, usize>,
 }
 
-/// What a namespace is: a text, or what is handed to the file.
+/// What a namespace is: a text, or what the file inherits.
 #[derive(Clone, Copy)]
 pub(crate) enum Namespace<'a> {
     Literal(&'a str),
@@ -102,7 +102,7 @@ impl OutlineBindings {
     }
 }
 
-/// What the declaration of this number binds to.
+/// What the declaration of this index binds to.
 fn declared_namespace(outline: &Outline, number: usize) -> Option<Namespace<'_>> {
     match &outline.declarations.get(number)?.uri {
         OutlineUri::Literal(uri) => Some(Namespace::Literal(uri.as_str())),

@@ -1,4 +1,4 @@
-// Names of their own: distinct from all that are written, and from each other.
+// Generated names: distinct from all that are written, and from each other.
 ghost use Rattle.std.specs.Prelude.{◌≡◌, ◌∷◌, ◌++◌, false, not, IfOk, OnOk, string_bytes};
 ghost use Rattle.std.specs.BTreeSet.{contains_text};
 ghost use Rattle.rn_scopes.specs.FreeNames.{name_span};
@@ -10,7 +10,7 @@ use rn_outline::{PartKind, Span, name_in};
 use std::alloc::{AllocError, Global};
 use std::collections::{BTreeMap, BTreeSet};
 
-/// The most characters of a file's name that the stem of a name of its own takes.
+/// The most characters of a file's name that the stem of a generated name takes.
 const STEM_LIMIT: usize = 80;
 
 /// Names that are taken, and from which number on others made of the same name may be free.
@@ -20,7 +20,7 @@ pub struct Taken {
     next: BTreeMap<String, u64>,
 }
 
-/// A name with a number behind it; without one for the first.
+/// A name with a number after it; without one for the first.
 fn numbered_name(alloc: Global, name: &str, number: u64) -> Result<String, AllocError> {
     if number <= 1 {
         return String::from_str(alloc, name);
@@ -44,7 +44,7 @@ impl Taken {
         }
     }
 
-    /// Takes a name: whether it was free. Refused only where memory runs out.
+    /// Takes a name: whether it was free.
     pub fn take(&mut self, alloc: Global, name: &str) -> Result<bool, AllocError>
         ensures free { IfOk result (λ r. r ≡ not (contains_text self.old.names name.now)) }
         ensures takes { OnOk result (Takes name.now self.old.names self.new.names) }
@@ -56,8 +56,7 @@ impl Taken {
         Ok(true)
     }
 
-    /// Takes the first free one of a name, the name with `-2` behind it, with `-3` and so on. Refused only for want of
-    /// memory.
+    /// Takes the first free one of a name, the name with `-2` after it, with `-3` and so on.
     pub fn fresh_name(&mut self, alloc: Global, name: &str) -> Result<String, AllocError>
         ensures free { IfOk result (λ r. contains_text self.old.names (string_bytes r) ≡ false) }
         ensures takes { IfOk result (λ r. Takes (string_bytes r) self.old.names self.new.names) }
@@ -68,7 +67,7 @@ impl Taken {
         Ok(made)
     }
 
-    /// The first free one of a name, the name with `-2` behind it, with `-3` and so on, and its number: 1 for the name
+    /// The first free one of a name, the name with `-2` after it, with `-3` and so on, and its number: 1 for the name
     /// itself.
     fn first_free_name(&self, alloc: Global, name: &str) -> Result<(String, u64), AllocError>
         ensures { IfOk result (λ r. contains_text self.now.names (string_bytes r.0) ≡ false) }
@@ -140,7 +139,7 @@ pub(crate) fn written_name<'a>(text: &'a str, kind: &PartKind) -> &'a str {
     }
 }
 
-/// A name of its own: a stem, a dot and a name. Refused only where memory runs out.
+/// A generated name: a stem, a dot and a name.
 pub fn own_name(alloc: Global, stem: &str, name: &str) -> Result<String, AllocError>
     ensures { IfOk result (λ own. string_bytes own ≡ stem.now ++ (46 ∷ name.now)) }
 {
@@ -153,12 +152,12 @@ pub fn own_name(alloc: Global, stem: &str, name: &str) -> Result<String, AllocEr
 /// The names that scopes and modules are given.
 #[derive(Drop)]
 pub struct Names {
-    /// What stands before the first dot of names, those that were made too.
+    /// What is before the first dot of names, generated ones too.
     taken_stems: Taken,
     modules: Taken,
     /// Of each file, whether no module has its name yet.
     is_free: Vec<bool>,
-    /// The stems that were made.
+    /// The generated stems.
     pub made_stems: BTreeSet<String>,
     /// What follows the dot for a start: a name that nobody writes.
     pub start: String,

@@ -17,7 +17,7 @@ use std::alloc::{AllocError, Global};
 use std::collections::BTreeMap;
 
 /// The most modules that files may make, without those that bring in scopes: as many as a set has contributions,
-/// `MAX_CONTRIBUTIONS` of rn_modset, on which this crate does not stand.
+/// `MAX_CONTRIBUTIONS` of rn_modset, which this crate does not use.
 pub const MAX_PLACES: usize = 1_024;
 
 /// Which modules files become, of which some are roots: the scopes and places that the roots make,
@@ -26,7 +26,7 @@ pub const MAX_PLACES: usize = 1_024;
 ///
 /// Refused with the first fault: `NoFile`, `IncludedPattern`, `Prefix`, `NoParent`, `Many`, in the
 /// order of places and parts; `Outline` where a nested grammar's number is none of its outline;
-/// `Unsound` where a made name is not free. `Memory` comes only where memory runs out.
+/// `Unsound` where a generated name is not free. `Memory` comes only where memory runs out.
 pub fn make_plan(alloc: Global, units: &Units<'_>, roots: &[usize]) -> Result<Plan, LiftFault>
     ensures free { IfOk result (λ p.
         AreFree (files_of units.now) p.names.made_stems (string_bytes p.names.start)) }
@@ -99,7 +99,7 @@ impl Plan {
     }
 
     /// Adds the place of a root. One that a root includes has its places there, where it needs the
-    /// namespace that is handed to it.
+    /// namespace that it inherits.
     fn add_root(
         &mut self,
         alloc: Global,
@@ -272,9 +272,9 @@ impl Plan {
         }
     }
 
-    /// The scope of a unit that is placed in another one: there is one for each namespace that is
-    /// handed to it, and for each grammar around it, where it says `parent` or is a pattern (RELAX
-    /// NG 2001, 4.6, 4.18).
+    /// The scope of a unit that is placed in another one: there is one for each namespace that it
+    /// inherits, and for each grammar around it, where it says `parent` or is a pattern (RELAX NG 2001,
+    /// 4.6, 4.18).
     fn scope(
         &mut self,
         alloc: Global,
@@ -341,8 +341,8 @@ impl Plan {
         })
     }
 
-    /// The place of a unit in a scope: one for each namespace that is handed to it, where it needs that. `Many`, where
-    /// it would be one more than [`MAX_PLACES`].
+    /// The place of a unit in a scope: one for each namespace that it inherits, where it needs that. `Many`, where it
+    /// would be one more than [`MAX_PLACES`].
     fn place(
         &mut self,
         alloc: Global,

@@ -13,19 +13,19 @@ pub const ROOT: usize = 0;
 /// A grammar in its surroundings, or a pattern that is a file.
 #[derive(Drop)]
 pub struct Scope {
-    /// What stands before the dot of the scope's names; nothing, for the roots.
+    /// What is before the dot of the scope's names; nothing, for the roots.
     pub stem: String,
-    /// The number of the scope that references mean: itself, for a grammar; that around it, for a pattern.
+    /// The index of the scope that references mean: itself, for a grammar; that around it, for a pattern.
     pub reference_scope: usize,
-    /// The number of the scope that references behind `parent` mean.
+    /// The index of the scope that `parent` means.
     pub parent: Option<usize>,
-    /// The number of the namespace that is handed to the scope.
+    /// The index of the namespace that the scope inherits.
     pub(crate) namespace: usize,
-    /// The number of the scope's first place, which brings in the others.
+    /// The index of the scope's first place, which brings in the others.
     pub entry: usize,
     /// The name of the module that brings the scope in; nothing, for the roots.
     pub module: String,
-    /// The number of the file whose external or nested grammar the scope was made for.
+    /// The index of the file that has the external or nested grammar for which the scope was made.
     pub file: usize,
     /// The byte of that file's text where the external or the grammar begins.
     pub at: usize,
@@ -34,11 +34,11 @@ pub struct Scope {
 /// A unit in a scope, which becomes a module.
 #[derive(Drop)]
 pub struct PlacedUnit {
-    /// The number of the unit.
+    /// The index of the unit.
     pub unit: usize,
-    /// The number of the scope.
+    /// The index of the scope.
     pub scope: usize,
-    /// The number of the namespace that is handed to the unit; 0, where the unit does not need it.
+    /// The index of the namespace that the unit inherits; 0, where the unit does not need it.
     pub(crate) namespace: usize,
     /// The name of the module.
     pub module: String,
@@ -49,9 +49,9 @@ pub struct PlacedUnit {
 /// What a part leads to: an include to a place; an external and a nested grammar to a scope.
 #[derive(Clone, Copy)]
 pub struct Link {
-    /// The number of the part in its file's outline.
+    /// The index of the part in its file's outline.
     pub part: usize,
-    /// The number of the place or the scope that the part leads to.
+    /// The index of the place or the scope that the part leads to.
     pub to: usize,
 }
 
@@ -79,19 +79,19 @@ pub struct Plan {
     /// The places of the roots.
     pub roots: Vec<usize>,
     pub(crate) namespaces: Namespaces,
-    /// The names that were made for scopes and modules.
+    /// The names generated for scopes and modules.
     pub names: Names,
     pub(crate) scope_numbers: BTreeMap<ScopeKey, usize>,
     pub(crate) place_numbers: BTreeMap<PlacedUnitKey, usize>,
 }
 
 impl Plan {
-    /// The number of the scope that references behind `parent` mean in a scope.
+    /// The index of the scope that `parent` means in a scope.
     pub fn parent_of(&self, scope: usize) -> Option<usize> {
         self.scopes.get(scope)?.parent
     }
 
-    /// The namespace that is handed to a scope.
+    /// The namespace that a scope inherits.
     pub fn namespace_of(&self, scope: &Scope) -> &str {
         self.namespaces.uri(scope.namespace)
     }
@@ -106,7 +106,7 @@ impl Plan {
         }
     }
 
-    /// The number of the scope that references in a scope mean.
+    /// The index of the scope that references in a scope mean.
     pub fn reference_scope_of(&self, scope: usize) -> usize
         ensures { scope ≡ ROOT → result ≡ ROOT }
     {
@@ -119,7 +119,7 @@ impl Plan {
         }
     }
 
-    /// What stands before the dot of names in a scope.
+    /// What is before the dot of names in a scope.
     pub fn stem_of(&self, scope: usize) -> &str {
         match self.scopes.get(scope) {
             Some(scope) => scope.stem.as_str(),
@@ -127,7 +127,7 @@ impl Plan {
         }
     }
 
-    /// The number of the scope in which a part of a place means a name, or the start.
+    /// The index of the scope in which a part of a place means a name, or the start.
     pub fn scope_meant(&self, place: usize, part: usize, kind: &PartKind) -> Option<usize> {
         let scope = self.places.get(place)?.scope;
         match kind {
@@ -138,7 +138,7 @@ impl Plan {
         }
     }
 
-    /// The number of the place or the scope that a part of a place leads to; `None` where it leads to none.
+    /// The index of the place or the scope that a part of a place leads to; `None` where it leads to none.
     pub fn leads_to(&self, place: usize, part: usize) -> Option<usize> {
         let links = self.places.get(place)?.links.as_slice();
         let number = links.binary_search_by(|link| link.part.cmp(&part)).ok()?;

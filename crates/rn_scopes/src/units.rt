@@ -11,15 +11,15 @@ use std::alloc::{AllocError, Global};
 /// A grammar of a file, or the pattern that a file is.
 #[derive(Drop)]
 pub struct Unit {
-    /// The number of the file.
+    /// The index of the file.
     pub file: usize,
-    /// The number of the grammar in the file's outline; 0 is the file's own.
+    /// The index of the grammar in the file's outline; 0 is the file's own.
     pub grammar: usize,
-    /// The numbers of the unit's parts, in the order of the outline.
+    /// The indices of the unit's parts, in the order of the outline.
     pub parts: Vec<usize>,
-    /// What stands in the unit: the file behind its declarations, or what is between the braces.
+    /// What is in the unit: the file after its declarations, or what is between the braces.
     pub inside: Span,
-    /// Whether what the unit becomes depends on the namespace that is handed to it: it has externals or
+    /// Whether what the unit becomes depends on the namespace that it inherits: it has externals or
     /// nested grammars, or includes what has.
     pub(crate) needs_namespace: bool,
     /// Whether the unit says `parent`, or includes or places what does.
@@ -38,7 +38,7 @@ impl Unit {
     }
 }
 
-/// The grammars of files, those of a file side by side in the order of their numbers.
+/// The grammars of files, those of a file side by side in the order of their indices.
 #[derive(Drop)]
 pub struct Units<'a> {
     /// The files, in the order in which they were given.
@@ -48,7 +48,7 @@ pub struct Units<'a> {
 }
 
 impl<'a> Units<'a> {
-    /// The units of files. Refused only where memory runs out.
+    /// The units of files.
     pub fn of(alloc: Global, files: &[Lifting<'a>]) -> Result<Self, AllocError>
         ensures files { IfOk result (λ u. files_of u ≡ files.now) }
         ensures targets { IfOk result (λ u. All HasTargets u.files.items) }
@@ -106,7 +106,7 @@ impl<'a> Units<'a> {
         Ok(())
     }
 
-    /// Notes what stands in the unit of a nested grammar.
+    /// Notes what is in the unit of a nested grammar.
     fn note_inside(&mut self, first: usize, kind: &PartKind)
         ensures { self.new.files ≡ self.old.files }
     {
@@ -144,7 +144,7 @@ impl<'a> Units<'a> {
         }
     }
 
-    /// The number of the unit of a file and a grammar.
+    /// The index of the unit of a file and a grammar.
     pub(crate) fn number(&self, file: usize, grammar: usize) -> Option<usize> {
         let given = self.files.get(file)?;
         let outline = given.file.outline;
@@ -162,7 +162,7 @@ impl<'a> Units<'a> {
         }
     }
 
-    /// Whether what a unit becomes depends on the namespace that is handed to it.
+    /// Whether what a unit becomes depends on the namespace that it inherits.
     pub(crate) fn needs_namespace(&self, unit: usize) -> bool {
         match self.units.get(unit) {
             Some(unit) => unit.needs_namespace,
@@ -189,17 +189,17 @@ impl<'a> Units<'a> {
         }
     }
 
-    /// The part of this number of a unit's file.
+    /// The part of this index of a unit's file.
     pub fn part(&self, unit: &Unit, number: usize) -> Option<&'a Part> {
         self.files.get(unit.file)?.part(number)
     }
 
-    /// The number of the file that the part of this number of a unit's file names.
+    /// The index of the file that the part of this index of a unit's file names.
     pub(crate) fn target(&self, unit: &Unit, number: usize) -> Option<usize> {
         self.files.get(unit.file)?.target(number)
     }
 
-    /// Marks the units that need the namespace that is handed to them, and those that say `parent`.
+    /// Marks the units that need the namespace that they inherit, and those that say `parent`.
     fn mark(&mut self, alloc: Global) -> Result<(), AllocError>
         ensures { self.new.files ≡ self.old.files }
     {

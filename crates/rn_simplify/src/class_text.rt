@@ -73,7 +73,7 @@ fn write_ns_name(writer: &mut Writer, prefixes: &Prefixes, uri: &str)
     writer.put(":*");
 }
 
-/// Writes a name: alone in the empty namespace, else behind a prefix.
+/// Writes a name: alone in the empty namespace, else after a prefix.
 #[inline(always)]
 fn write_name(writer: &mut Writer, prefixes: &Prefixes, uri: &str, local: &str)
     ensures { Writes (name_piece (prefixes_view prefixes.now) uri.now local.now ∷ [])

@@ -45,10 +45,10 @@ fn seed_of(texts: &BTreeSet<String>) -> Seed {
     Seed::of(&digest.finalize())
 }
 
-/// The most texts that are looked through one by one: mostly their lengths differ, while a hash takes all bytes.
+/// Up to so many texts are compared one by one: mostly their lengths differ, while a hash takes all bytes.
 const FEW_TEXTS: usize = 64;
 
-/// The place of a text, counted from 1; the number of the texts if it isn't there.
+/// The rank of a text, counted from 1; how many texts there are if it isn't there.
 fn place_of(texts: &IndexSet<String, Seed>, text: &str) -> usize
     ensures { result ≡ place text.now (map (λ u. string_bytes u) texts.now.keys) }
 {
@@ -62,7 +62,7 @@ fn place_of(texts: &IndexSet<String, Seed>, text: &str) -> usize
     }
 }
 
-/// The place of a text among few, counted from 1; their number if it isn't there.
+/// The rank of a text among few, counted from 1; how many there are if it isn't there.
 fn place_among(texts: &[String], text: &str) -> usize
     ensures { result ≡ place text.now (map (λ u. string_bytes u) texts.now) }
 {
@@ -126,7 +126,7 @@ impl Prefixes {
         }
     }
 
-    /// Writes a datatype's name, behind the prefix of its library unless that is the empty one.
+    /// Writes a datatype's name, after the prefix of its library unless that is the empty one.
     pub(crate) fn write_type(&self, writer: &mut Writer, library: &str, type_name: &str)
         ensures { Writes (type_piece (prefixes_view self.now) library.now type_name.now ∷ [])
             writer.old writer.new }

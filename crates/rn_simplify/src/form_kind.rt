@@ -22,7 +22,7 @@ impl FormKind {
         matches!(self, FormKind::Other)
     }
 
-    /// The kind of a list or an attribute whose content is of this one: `notAllowed` is passed on (4.20).
+    /// The kind of a list or an attribute whose content is of this one: `notAllowed` stays so (4.20).
     pub(crate) fn around(self) -> FormKind
         ensures { result ≡ around self }
     {

@@ -1,4 +1,4 @@
-// The canonical form of a body, of whose members each is formed once (RELAX NG 2001, 4.17, 4.20 and 4.21).
+// The canonical form of a joined body, each member brought into its form once (RELAX NG 2001, 4.17, 4.20 and 4.21).
 ghost use Rattle.std.specs.Prelude.{◌≡◌, ◌<◌, IfOk, length, map, slice_index_or, take};
 ghost use Rattle.rn_pattern.specs.Canonical.{choice_step, interleave_step};
 ghost use Rattle.rn_pattern.specs.Store.{KeepsIds, StandsFor, KnowsAll};
@@ -14,7 +14,7 @@ use rn_pattern::{Pattern, Patterns};
 use std::alloc::{AllocError, Global};
 use std::rc::Rc;
 
-/// The id of the canonical form of a body, by the first places of the members that components are joined to.
+/// The id of the canonical form of a body. `firsts` has, for each member of a joined list, the first that is the same.
 pub(crate) fn canonical_body<P: Patterns>(
     alloc: Global,
     store: &mut P,

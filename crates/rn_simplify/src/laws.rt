@@ -30,9 +30,8 @@ pub fn spelling_reads_back()
     ensures { (n : Grammar) → IsSpellable n → IsReadBack n }
 {}
 
-/// A grammar whose names are names, whose texts are XML characters and whose datatypes may stand has a canonical
-/// grammar of which the same holds; if that one's text is no longer than a module's may be, it is read back as the
-/// canonical grammar, opened.
+/// A grammar whose names and texts can be written, and whose datatypes may be there, has such a canonical grammar. If
+/// the text of that is no longer than a module's may be, it is read back as the canonical grammar, opened.
 pub fn canonical_texts_are_read_back()
     ensures writable { (G N : Grammar) → IsCanonicalOf G N → HasWritableTexts G
         → HasWritableTexts N }
@@ -72,16 +71,16 @@ pub fn canonical_again()
         → M ≡ N }
 {}
 
-/// References that are settled one after the other, each behind those that its definition refers to outside elements,
+/// References that are settled one after the other, each after those that its definition refers to outside elements,
 /// give the canonical grammar.
 pub fn settling_in_order_is_canonical()
     ensures { (G N : Grammar) (settled : Text → Tree) (rank : Text → ℕ) → IsSettling G settled rank
         → IsPruned (formed settled G) N → IsCanonicalOf G N }
 {}
 
-/// Other texts for the known URIs of a grammar, which keep their order and those that mean something by themselves, are
-/// other texts for those of its canonical grammar and nothing else. The canonical grammar has no URI that the grammar
-/// does not have.
+/// Renaming the known URIs of a grammar, so that their order and those that mean something by themselves are kept,
+/// renames the same URIs in its canonical grammar and changes nothing else. The canonical grammar has no URI that the
+/// grammar does not have.
 pub fn canonical_grammars_are_renamed()
     ensures renamed { (named : Text → Text) (known : List Text) → IsRenaming named (Contains known)
         → (G N : Grammar) → IsOfKnownUris (Contains known) G → IsCanonicalOf G N

@@ -6,8 +6,8 @@ ghost use Rattle.rn_simplify.specs.NormalParts.{HasSource, parts_view};
 use rn_pattern::Pattern;
 
 /// A grammar in its canonical form: the start, and the definitions that are reached from it. It is the canonical
-/// grammar of a grammar for which no refusal stands, and keeps what that keeps: every reference is defined, no loop is
-/// reached, excepts and name classes keep their restrictions (RELAX NG 2001, 4.16, 4.18, 4.19 and 7.1.4).
+/// grammar of a grammar of which no refusal is true. So every reference is defined, no loop is reached, excepts and
+/// name classes keep their restrictions (RELAX NG 2001, 4.16, 4.18, 4.19 and 7.1.4).
 #[derive(Drop)]
 pub struct Normal {
     pub(crate) start: Pattern,

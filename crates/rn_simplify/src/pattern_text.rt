@@ -53,7 +53,7 @@ pub(crate) fn write_pattern(writer: &mut Writer, prefixes: &Prefixes, pattern: &
     }
 }
 
-/// Writes the except of a datatype, if it has one, behind a minus sign.
+/// Writes the except of a datatype, if it has one, after a minus sign.
 #[cycle(pattern)]
 fn write_except(writer: &mut Writer, prefixes: &Prefixes, except: &Option<Box<Pattern>>)
     ensures { MatchOption except.now (Writes [] writer.old writer.new)
@@ -106,7 +106,7 @@ fn write_in_parentheses(writer: &mut Writer, prefixes: &Prefixes, pattern: &Patt
     writer.close_bracket(")");
 }
 
-/// Writes a pattern before a postfix or behind a minus sign.
+/// Writes a pattern before a postfix or after a minus sign.
 #[cycle(pattern)]
 fn write_primary(writer: &mut Writer, prefixes: &Prefixes, pattern: &Pattern)
     ensures { Writes (primary (written_tree (prefixes_view prefixes.now)

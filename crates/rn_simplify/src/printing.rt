@@ -30,8 +30,8 @@ pub fn print(alloc: Global, normal: &Normal) -> Result<String, Refusal>
     print_long(alloc, normal, &ShortUris::none(alloc))
 }
 
-/// The one text of the canonical grammar that has URIs where this one has short texts in their place: the
-/// declarations of its prefixes are of the URIs (compact syntax, section 2, decl). `OutputTooLarge` where the text
+/// The one text of a canonical grammar with short texts, as if it had the URIs in their place: the declarations of its
+/// prefixes are of the URIs (compact syntax, section 2, decl). `OutputTooLarge` where the text
 /// would have more than [`rn_modset::MAX_TEXT`] bytes, with the URIs at their length; else `OutputTooDeep` where more
 /// than [`rn_syntax::MAX_OPEN`] of its brackets would be open at once.
 pub fn print_long(alloc: Global, normal: &Normal, uris: &ShortUris) -> Result<String, Refusal>

@@ -75,7 +75,7 @@ fn references_of_forms(
     Ok(rows)
 }
 
-/// One row, of the references of a pattern.
+/// A graph of one node: the references of a pattern.
 fn references_of(
     alloc: Global,
     definitions: &Definitions,

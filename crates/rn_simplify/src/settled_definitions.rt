@@ -17,7 +17,7 @@ pub(crate) struct SettledDefinitions<'g> {
     pub(crate) definitions: &'g Definitions,
     /// The kind of the canonical form of each definition, by its id.
     pub(crate) kinds: Vec<FormKind>,
-    /// No definition becomes `notAllowed` or `empty`, so no reference is looked up. It may be false even so.
+    /// No definition becomes `notAllowed` or `empty`, so no reference is looked up. It may be false all the same.
     pub(crate) all_stay: bool,
     ghost sized: { length kinds.items ≡ length definitions.now.entries },
     ghost staying: { IsTrue all_stay → AllStay kinds.items },

@@ -10,7 +10,7 @@ use std::rc::Rc;
 /// How a pattern or a name class is written.
 #[derive(Clone, Copy, PartialEq, Eq)]
 pub(crate) enum Shape {
-    /// It stands alone everywhere.
+    /// It needs no parentheses anywhere.
     Closed,
     /// It ends in a postfix, so it needs parentheses before another one.
     Postfixed,

@@ -112,7 +112,7 @@ impl Writer {
         }
     }
 
-    /// Appends a definition's name, behind a backslash if it is a keyword.
+    /// Appends a definition's name, after a backslash if it is a keyword.
     #[inline(always)]
     pub(crate) fn put_identifier(&mut self, name: &str)
         ensures { WritesBytes (if is_keyword (chars name.now) then 92 ∷ name.now else name.now) none

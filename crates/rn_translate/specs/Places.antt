@@ -25,6 +25,15 @@ BeginsWithText-prop next length (p ∷ ps) = le_prop
 abbrev pub ArePlaces : (length source : ℕ) → List Place → Type 0
 ArePlaces length source ps = AreRising (length + 1) source 0 ps × BeginsWithText 0 length ps
 
+-- no piece begins before this byte, and none before one that stands before it
+abbrev pub AreInOrder : (from : ℕ) → List Place → Type 0
+AreInOrder from [] = 0 ≤ from
+AreInOrder from (p ∷ ps) = (from ≤ p.from) × AreInOrder p.from ps
+
+pub AreInOrder-prop : (from : ℕ) (ps : List Place) → IsProp (AreInOrder from ps)
+AreInOrder-prop from [] = le_prop
+AreInOrder-prop from (p ∷ ps) = ×_prop le_prop (AreInOrder-prop p.from ps)
+
 -- what the last of these pieces that begins at a byte or before it is for; if none does, what was found before
 abbrev pub origin_from : ℕ → ℕ → List Place → ℕ
 origin_from found at [] = found

@@ -1,6 +1,6 @@
 // A compact text that was made of a document.
 ghost use Rattle.std.specs.Prelude.{◌≡◌};
-ghost use Rattle.rn_translate.specs.Places.{origin_of};
+ghost use Rattle.rn_translate.specs.Places.{AreInOrder, AreInOrder-prop, origin_of};
 
 use crate::draft::Place;
 
@@ -9,23 +9,28 @@ use crate::draft::Place;
 pub struct Places {
     /// The places, in the order of their `from`, of which no two are equal. The first piece begins with the text.
     pub items: Vec<Place>,
+    ghost in_order: { AreInOrder 0 items.items } by { AreInOrder-prop _ _ },
+}
+
+/// The byte that the last of these pieces that begins at a byte or before it was made for; 0 if none does.
+fn origin_among(places: &[Place], at: usize) -> usize
+    requires { AreInOrder 0 places.now }
+    ensures { result ≡ origin_of places.now at }
+{
+    let begun = places.partition_point(|place| place.from <= at);
+    match begun.checked_sub(1) {
+        Some(last) => places[last].at,
+        None => 0,
+    }
 }
 
 impl Places {
     /// The byte of the document's text that a byte of the compact text was made for: that of the last piece that begins
-    /// at the byte or before it.
+    /// at the byte or before it. It is looked for by halving.
     pub fn origin(&self, at: usize) -> usize
         ensures { result ≡ origin_of self.now.items.items at }
     {
-        let mut origin = 0;
-        let mut rest = self.items.as_slice();
-        'places: while let Some((place, behind)) = rest.split_first() {
-            if place.from <= at {
-                origin = place.at;
-            }
-            rest = behind;
-        }
-        origin
+        origin_among(self.items.as_slice(), at)
     }
 }
 

@@ -19,7 +19,7 @@ use std::alloc::Global;
 ///
 /// Refused at the first place where the document is no schema in the XML syntax, where the text would have more than
 /// [`MAX_TEXT`](crate::MAX_TEXT) bytes, and wherever memory is.
-#[tactic(auto, using(crate::proofs::RisingPlaces::pieces_of_draft))]
+#[tactic(auto, using(crate::proofs::RisingPlaces::in_order_of_draft, crate::proofs::RisingPlaces::pieces_of_draft))]
 pub fn compact_text(
     alloc: Global,
     source: &str,

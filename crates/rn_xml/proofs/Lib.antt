@@ -1,2 +1,5 @@
 pub mod Lengths
 pub mod AsciiFronts
+pub mod TableSteps
+pub mod PrefixUris
+pub mod ScopeSteps

@@ -1,2 +1,5 @@
 pub mod inside
+pub mod DocumentTables
 pub mod Encodings
+pub mod PrefixScopes
+pub mod TableRows

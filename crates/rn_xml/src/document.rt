@@ -1,4 +1,6 @@
 // What a document of XML is, as its information set (XML 1.0 Fifth Edition; Namespaces in XML 1.0, Third Edition).
+ghost use Rattle.std.specs.Prelude.{◌≡◌};
+ghost use Rattle.rn_xml.specs.TableRows.{rows_of};
 
 /// The index of no namespace in [`XmlDocument::uris`].
 pub const NO_NAMESPACE: usize = 0;
@@ -96,7 +98,9 @@ pub struct XmlDocument<'a> {
 
 impl<'a> XmlDocument<'a> {
     /// The attributes of the element, in text order.
-    pub fn attributes_of(&self, element: &XmlElement<'_>) -> &[XmlAttribute<'a>] {
+    pub fn attributes_of(&self, element: &XmlElement<'_>) -> &[XmlAttribute<'a>]
+        ensures { result.now ≡ rows_of element.now.attributes self.now.attributes.items }
+    {
         let Rows { from, to } = element.attributes;
         let table = self.attributes.as_slice();
         if from <= to && to <= table.len() {
@@ -107,7 +111,9 @@ impl<'a> XmlDocument<'a> {
     }
 
     /// The namespaces that the element declares, in text order.
-    pub fn declarations_of(&self, element: &XmlElement<'_>) -> &[XmlDeclaration<'a>] {
+    pub fn declarations_of(&self, element: &XmlElement<'_>) -> &[XmlDeclaration<'a>]
+        ensures { result.now ≡ rows_of element.now.declarations self.now.declarations.items }
+    {
         let Rows { from, to } = element.declarations;
         let table = self.declarations.as_slice();
         if from <= to && to <= table.len() {

@@ -1,7 +1,8 @@
 // A document, read from its text.
-ghost use Rattle.std.specs.Prelude.{◌≡◌, ◌⊎◌, ◌<◌, ◌≤◌, length, IfErr, IfSome, IsNone};
+ghost use Rattle.std.specs.Prelude.{◌≡◌, ◌⊎◌, ◌<◌, ◌≤◌, length, vec_len, IfErr, IfOk, IfSome, IsNone, OnOk};
+ghost use Rattle.rn_xml.specs.DocumentTables.{AreTables};
 ghost use Rattle.rn_xml.specs.inside.Rests.{StopsWithin};
-ghost use Rattle.rn_xml.specs.inside.Readers.{HasRoomFor, ReadsOn};
+ghost use Rattle.rn_xml.specs.inside.Readers.{HasRoomFor, ReadsOn, element_count};
 
 use crate::characters::after_front;
 use crate::declaration::after_declaration;
@@ -55,9 +56,11 @@ fn further(rest: &str) -> Stop
 
 /// Reads the text before the next tag, and that tag, in an element that is open, and answers what follows.
 fn read_piece<'a>(reader: &mut TagReader<'a>, parent: usize, text: &'a str) -> Result<&'a str, Stop>
-    requires { HasRoomFor reader.old text.now }
+    requires room { HasRoomFor reader.old text.now }
+    requires parent { parent < element_count reader.old }
     ensures reads { ReadsOn reader.old text.now result }
     ensures same { reader.new.len ≡ reader.old.len }
+    ensures more { element_count reader.old ≤ element_count reader.new }
 {
     let (content, left, tag) = split_text(reader.alloc, text)?;
     if !content.is_empty() {
@@ -74,9 +77,11 @@ fn read_piece<'a>(reader: &mut TagReader<'a>, parent: usize, text: &'a str) -> R
 
 /// Reads the root element, and answers what follows it.
 fn read_root<'a>(reader: &mut TagReader<'a>, text: &'a str) -> Result<&'a str, Stop>
-    requires { HasRoomFor reader.old text.now }
+    requires room { HasRoomFor reader.old text.now }
+    requires empty { element_count reader.old ≡ 0 }
     ensures reads { ReadsOn reader.old text.now result }
     ensures same { reader.new.len ≡ reader.old.len }
+    ensures root { OnOk result (0 < element_count reader.new) }
 {
     let mut rest = reader.read_start_tag(text, None)?;
     while let Some(parent) = reader.innermost() {
@@ -87,7 +92,9 @@ fn read_root<'a>(reader: &mut TagReader<'a>, text: &'a str) -> Result<&'a str, S
 
 /// The document that the text is.
 fn read_whole<'a>(alloc: Global, text: &'a str) -> Result<XmlDocument<'a>, Stop>
-    ensures { IfErr result (StopsWithin text.now) }
+    ensures tables { IfOk result AreTables }
+    ensures root { IfOk result (λ document. 0 < vec_len document.elements) }
+    ensures err { IfErr result (StopsWithin text.now) }
 {
     let root = after_misc(after_declaration(text)?)?;
     if let Some(stop) = no_root(root) {
@@ -108,7 +115,9 @@ fn read_whole<'a>(alloc: Global, text: &'a str) -> Result<XmlDocument<'a>, Stop>
 ///
 /// [`MAX_DEPTH`]: crate::MAX_DEPTH
 pub fn read_document<'a>(alloc: Global, text: &'a str) -> Result<XmlDocument<'a>, XmlFault>
-    ensures { IfErr result (λ fault. fault.at ≤ length text.now) }
+    ensures tables { IfOk result AreTables }
+    ensures root { IfOk result (λ document. 0 < vec_len document.elements) }
+    ensures err { IfErr result (λ fault. fault.at ≤ length text.now) }
 {
     match read_whole(alloc, text) {
         Ok(document) => Ok(document),

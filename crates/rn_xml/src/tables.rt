@@ -1,4 +1,7 @@
 // The tables of a document, filled in text order.
+ghost use Rattle.std.specs.Prelude.{◌≡◌, ◌+◌, ◌<◌, ◌≤◌, string_len, vec_len, IfOk};
+ghost use Rattle.rn_xml.specs.DocumentTables.{AreTables};
+ghost use Rattle.rn_xml.specs.inside.Parents.{MayHaveParent};
 
 use crate::characters::QName;
 use crate::document::{
@@ -15,10 +18,15 @@ pub(crate) const XML_URI: &str = "http://www.w3.org/XML/1998/namespace";
 pub(crate) struct Tables<'a> {
     pub(crate) document: XmlDocument<'a>,
     pub(crate) uris: Indices,
+    ghost sound: { AreTables document },
 }
 
 /// The name as it is written, of no namespace so far.
-fn unnamed(name: QName<'_>) -> XmlName<'_> {
+fn unnamed(name: QName<'_>) -> XmlName<'_>
+    ensures uri { result.uri ≡ 0 }
+    ensures prefix { result.prefix ≡ name.entry.prefix }
+    ensures local { result.local ≡ name.entry.local }
+{
     XmlName {
         uri: NO_NAMESPACE,
         prefix: name.prefix,
@@ -27,7 +35,10 @@ fn unnamed(name: QName<'_>) -> XmlName<'_> {
 }
 
 /// No rows, where a table has this many.
-fn none_behind(count: usize) -> Rows {
+fn none_behind(count: usize) -> Rows
+    ensures from { result.from ≡ count }
+    ensures to { result.to ≡ count }
+{
     Rows {
         from: count,
         to: count,
@@ -36,7 +47,9 @@ fn none_behind(count: usize) -> Rows {
 
 impl<'a> Tables<'a> {
     /// Empty tables; no namespace and that of `xml:` have their URIs.
-    pub(crate) fn new(alloc: Global) -> Result<Self, AllocError> {
+    pub(crate) fn new(alloc: Global) -> Result<Self, AllocError>
+        ensures { IfOk result (λ tables. vec_len tables.document.elements ≡ 0) }
+    {
         let mut names = Vec::new(alloc);
         names.push(String::new(alloc))?;
         names.push(String::from_str(alloc, XML_URI)?)?;
@@ -54,7 +67,10 @@ impl<'a> Tables<'a> {
     }
 
     /// The index of the URI, a new one if it has none.
-    fn uri(&mut self, alloc: Global, uri: &str) -> Result<usize, AllocError> {
+    fn uri(&mut self, alloc: Global, uri: &str) -> Result<usize, AllocError>
+        ensures ok { IfOk result (λ index. index < vec_len self.new.document.uris) }
+        ensures same { vec_len self.new.document.elements ≡ vec_len self.old.document.elements }
+    {
         if let Some(index) = self.uris.find(uri) {
             if index < self.document.uris.len() {
                 return Ok(index);
@@ -72,7 +88,12 @@ impl<'a> Tables<'a> {
         name: QName<'a>,
         at: usize,
         parent: Option<usize>,
-    ) -> Result<usize, AllocError> {
+    ) -> Result<usize, AllocError>
+        requires { MayHaveParent (vec_len self.old.document.elements) parent }
+        ensures index { IfOk result (λ index. index ≡ vec_len self.old.document.elements) }
+        ensures ok { IfOk result (λ index. vec_len self.new.document.elements ≡ index + 1) }
+        ensures more { vec_len self.old.document.elements ≤ vec_len self.new.document.elements }
+    {
         let index = self.document.elements.len();
         let element = XmlElement {
             name: unnamed(name),
@@ -93,7 +114,9 @@ impl<'a> Tables<'a> {
         prefix: &'a str,
         uri: &str,
         at: usize,
-    ) -> Result<usize, AllocError> {
+    ) -> Result<usize, AllocError>
+        ensures same { vec_len self.new.document.elements ≡ vec_len self.old.document.elements }
+    {
         let uri = self.uri(alloc, uri)?;
         let index = self.document.declarations.len();
         self.document
@@ -109,7 +132,9 @@ impl<'a> Tables<'a> {
         at: usize,
         value: String,
         value_at: usize,
-    ) -> Result<(), AllocError> {
+    ) -> Result<(), AllocError>
+        ensures same { vec_len self.new.document.elements ≡ vec_len self.old.document.elements }
+    {
         let attribute = XmlAttribute {
             name: unnamed(name),
             at,
@@ -126,7 +151,11 @@ impl<'a> Tables<'a> {
         parent: usize,
         at: usize,
         content: String,
-    ) -> Result<(), AllocError> {
+    ) -> Result<(), AllocError>
+        requires parent { parent < vec_len self.old.document.elements }
+        requires some { 0 < string_len content }
+        ensures same { vec_len self.new.document.elements ≡ vec_len self.old.document.elements }
+    {
         self.document.texts.push(XmlText {
             parent,
             at,
@@ -135,18 +164,17 @@ impl<'a> Tables<'a> {
         Ok(())
     }
 
-    /// How many elements there are.
-    pub(crate) fn element_count(&self) -> usize {
-        self.document.elements.len()
-    }
-
     /// How many attributes there are.
-    pub(crate) fn attribute_count(&self) -> usize {
+    pub(crate) fn attribute_count(&self) -> usize
+        ensures { result ≡ vec_len self.now.document.attributes }
+    {
         self.document.attributes.len()
     }
 
     /// How many declarations there are.
-    pub(crate) fn declaration_count(&self) -> usize {
+    pub(crate) fn declaration_count(&self) -> usize
+        ensures { result ≡ vec_len self.now.document.declarations }
+    {
         self.document.declarations.len()
     }
 
@@ -162,7 +190,10 @@ impl<'a> Tables<'a> {
     }
 
     /// The element has this namespace, and all attributes and declarations that were added since it was opened.
-    pub(crate) fn name_element(&mut self, index: usize, uri: usize) {
+    pub(crate) fn name_element(&mut self, index: usize, uri: usize)
+        requires { uri < vec_len self.old.document.uris }
+        ensures same { vec_len self.new.document.elements ≡ vec_len self.old.document.elements }
+    {
         if index < self.document.elements.len() {
             let mut element = self.document.elements[index];
             element.name.uri = uri;
@@ -173,14 +204,20 @@ impl<'a> Tables<'a> {
     }
 
     /// The attribute has this namespace.
-    pub(crate) fn name_attribute(&mut self, index: usize, uri: usize) {
+    pub(crate) fn name_attribute(&mut self, index: usize, uri: usize)
+        requires { uri < vec_len self.old.document.uris }
+        ensures same { vec_len self.new.document.elements ≡ vec_len self.old.document.elements }
+        ensures uris { vec_len self.new.document.uris ≡ vec_len self.old.document.uris }
+    {
         if let Some(attribute) = self.document.attributes.get_mut(index) {
             attribute.name.uri = uri;
         }
     }
 
     /// The element ends: its last descendant is the last element so far.
-    pub(crate) fn end_element(&mut self, index: usize) {
+    pub(crate) fn end_element(&mut self, index: usize)
+        ensures { vec_len self.new.document.elements ≡ vec_len self.old.document.elements }
+    {
         let end = self.document.elements.len();
         if index < end {
             let mut element = self.document.elements[index];

@@ -1,5 +1,6 @@
 // Tags, and the namespaces that they declare (XML 1.0 Fifth Edition, 3.1; Namespaces in XML 1.0).
-ghost use Rattle.std.specs.Prelude.{◌≡◌, ◌<◌, ◌≤◌, length, IfErr, IfOk};
+ghost use Rattle.std.specs.Prelude.{◌≡◌, ◌<◌, ◌≤◌, length, string_len, vec_len, All, IfErr, IfOk, IfSome, OnOk};
+ghost use Rattle.rn_xml.specs.inside.Parents.{MayHaveParent};
 ghost use Rattle.rn_xml.specs.inside.Rests.{GoesOn};
 
 use crate::characters::{QName, after_char, after_front, after_space, split_char, split_qname};
@@ -28,6 +29,7 @@ pub(crate) struct TagReader<'a> {
     locals: Indices,
     /// The elements that are open, the innermost last.
     opened: Vec<usize>,
+    ghost open: { All (λ i. i < vec_len tables.document.elements) opened.items },
 }
 
 /// The prefix that an attribute of this name declares, empty for the default namespace; none if it declares no namespace
@@ -78,11 +80,12 @@ fn split_tag_end(text: &str) -> Result<(bool, &str), Stop>
 }
 
 impl<'a> TagReader<'a> {
-    ghost use Rattle.rn_xml.specs.inside.Readers.{HasRoomFor, ReadsOn, MayReadOn, StopsIn};
+    ghost use Rattle.rn_xml.specs.inside.Readers.{HasRoomFor, ReadsOn, MayReadOn, StopsIn, element_count, uri_count};
 
     /// The reader of a text with this many bytes, before its first element.
     pub(crate) fn new(alloc: Global, len: usize) -> Result<Self, AllocError>
-        ensures { IfOk result (λ reader. reader.len ≡ len) }
+        ensures len { IfOk result (λ reader. reader.len ≡ len) }
+        ensures empty { IfOk result (λ reader. element_count reader ≡ 0) }
     {
         Ok(TagReader {
             alloc,
@@ -99,6 +102,7 @@ impl<'a> TagReader<'a> {
         requires { HasRoomFor self.old name.now }
         ensures err { IfErr result (StopsIn self.old) }
         ensures same { self.new.len ≡ self.old.len }
+        ensures elements { element_count self.new ≡ element_count self.old }
     {
         if is_forbidden(prefix, uri) {
             return Err(Stop::before(name, XmlFaultKind::Reserved));
@@ -123,6 +127,7 @@ impl<'a> TagReader<'a> {
         requires { HasRoomFor self.old text.now }
         ensures reads { ReadsOn self.old text.now result }
         ensures same { self.new.len ≡ self.old.len }
+        ensures elements { element_count self.new ≡ element_count self.old }
     {
         let (name, rest) = split_qname(text)?;
         let (quote, inside) = split_opening(rest)?;
@@ -145,6 +150,7 @@ impl<'a> TagReader<'a> {
         requires { HasRoomFor self.old text.now }
         ensures reads { MayReadOn self.old text.now result }
         ensures same { self.new.len ≡ self.old.len }
+        ensures elements { element_count self.new ≡ element_count self.old }
     {
         let mut rest = text;
         let mut spaced = after_space(rest);
@@ -162,8 +168,10 @@ impl<'a> TagReader<'a> {
     }
 
     /// The namespace of a name of this prefix, which so many bytes follow.
+    #[tactic(auto, using(crate::proofs::PrefixUris::uri_within))]
     fn uri_of(&self, prefix: &str, left: usize) -> Result<usize, Stop>
-        ensures { IfErr result (λ stop. stop.left ≡ left) }
+        ensures ok { IfOk result (λ uri. uri < uri_count self.now) }
+        ensures err { IfErr result (λ stop. stop.left ≡ left) }
     {
         let kind = XmlFaultKind::Prefix;
         let tables = &self.tables;
@@ -173,7 +181,8 @@ impl<'a> TagReader<'a> {
 
     /// The namespace of the attribute of this name, which so many bytes follow.
     fn attribute_uri(&self, prefix: &str, left: usize) -> Result<usize, Stop>
-        ensures { IfErr result (λ stop. stop.left ≡ left) }
+        ensures ok { IfOk result (λ uri. uri < uri_count self.now) }
+        ensures err { IfErr result (λ stop. stop.left ≡ left) }
     {
         if prefix.is_empty() {
             Ok(NO_NAMESPACE)
@@ -187,6 +196,7 @@ impl<'a> TagReader<'a> {
     fn name_attributes(&mut self, first: usize) -> Result<(), Stop>
         ensures err { IfErr result (StopsIn self.old) }
         ensures same { self.new.len ≡ self.old.len }
+        ensures elements { element_count self.new ≡ element_count self.old }
     {
         let mut seen = BTreeSet::new(self.alloc);
         for index in first..self.tables.attribute_count() {
@@ -212,9 +222,12 @@ impl<'a> TagReader<'a> {
         tag: &'a str,
         parent: Option<usize>,
     ) -> Result<&'a str, Stop>
-        requires { HasRoomFor self.old tag.now }
+        requires room { HasRoomFor self.old tag.now }
+        requires parent { MayHaveParent (element_count self.old) parent }
         ensures reads { ReadsOn self.old tag.now result }
         ensures same { self.new.len ≡ self.old.len }
+        ensures more { element_count self.old ≤ element_count self.new }
+        ensures one { OnOk result (element_count self.old < element_count self.new) }
     {
         if self.opened.len() >= MAX_DEPTH {
             return Err(Stop::before(tag, XmlFaultKind::Deep));
@@ -239,7 +252,9 @@ impl<'a> TagReader<'a> {
     }
 
     /// The innermost element that is open, if one is.
-    pub(crate) fn innermost(&self) -> Option<usize> {
+    pub(crate) fn innermost(&self) -> Option<usize>
+        ensures { IfSome result (λ index. index < element_count self.now) }
+    {
         self.opened.last().copied()
     }
 
@@ -250,9 +265,12 @@ impl<'a> TagReader<'a> {
         left: usize,
         content: String,
     ) -> Result<(), Stop>
-        requires { left ≤ self.old.len }
+        requires left { left ≤ self.old.len }
+        requires parent { parent < element_count self.old }
+        requires some { 0 < string_len content }
         ensures err { IfErr result (StopsIn self.old) }
         ensures same { self.new.len ≡ self.old.len }
+        ensures elements { element_count self.new ≡ element_count self.old }
     {
         self.tables.add_text(parent, self.len - left, content)?;
         Ok(())
@@ -270,7 +288,8 @@ impl<'a> TagReader<'a> {
 
     /// Ends the innermost element.
     fn close(&mut self)
-        ensures { self.new.len ≡ self.old.len }
+        ensures same { self.new.len ≡ self.old.len }
+        ensures elements { element_count self.new ≡ element_count self.old }
     {
         let Some(index) = self.opened.pop() else {
             return;
@@ -289,6 +308,7 @@ impl<'a> TagReader<'a> {
         requires shorter { length inside.now < length tag.now }
         ensures reads { ReadsOn self.old tag.now result }
         ensures same { self.new.len ≡ self.old.len }
+        ensures elements { element_count self.new ≡ element_count self.old }
     {
         let (name, rest) = split_qname(inside)?;
         let wrong = Stop::before(tag, XmlFaultKind::Outside);

@@ -21,7 +21,7 @@ fn main(rt: HostRuntime) -> ExitCode {
     }
 }
 
-/// Does what the words ask for.
+/// Does what the arguments ask for.
 fn run(rt: &HostRuntime) -> Result<(), ProgramFault> {
     let words = words(rt)?;
     let job = plan(rt.alloc(), words.as_slice())?;
@@ -33,7 +33,7 @@ fn run(rt: &HostRuntime) -> Result<(), ProgramFault> {
     )
 }
 
-/// The words behind the program's name.
+/// The arguments after the program's name.
 fn words(rt: &HostRuntime) -> Result<Vec<String>, ProgramFault> {
     match env::args(rt) {
         Ok(given) => {

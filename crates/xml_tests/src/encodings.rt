@@ -42,6 +42,13 @@ fn read(rt: HostRuntime) {
         b"<?xml version='1.0' encoding='US-ASCII'?><a/>",
         "<?xml version='1.0' encoding='US-ASCII'?><a/>",
     );
+    has_text(
+        &rt,
+        b"<?xml version='1.0' encoding='utf-8'?><\xC3\xA9/>",
+        "<?xml version='1.0' encoding='utf-8'?><\u{E9}/>",
+    );
+    has_text(&rt, b"\xFF\xFE<\0\x3D\xD8\x00\xDE", "<\u{1F600}");
+    has_text(&rt, b"\xEF\xBB\xBF\xEF\xBB\xBF<a/>", "\u{FEFF}<a/>");
     has_text(&rt, b"", "");
 }
 
@@ -53,7 +60,19 @@ fn refused(rt: HostRuntime) {
         b"<?xml version='1.0' encoding='US-ASCII'?><\xC3\xA9/>",
         "<?xml version='1.0' encoding='US-ASCII'?>< then NotEncoded(Ascii) at 42",
     );
+    has_text(&rt, b"<\xC0\xAF/>", "< then NotEncoded(Utf8) at 1");
+    has_text(&rt, b"<\xED\xA0\x80/>", "< then NotEncoded(Utf8) at 1");
+    has_text(&rt, b"<\xF4\x90\x80\x80/>", "< then NotEncoded(Utf8) at 1");
+    has_text(&rt, b"<a\xE2\x82", "<a then NotEncoded(Utf8) at 2");
     has_text(&rt, b"\xFE\xFF\0<\0", "< then NotEncoded(Utf16) at 1");
+    has_text(&rt, b"\xFE\xFF\0<\xD8", "< then NotEncoded(Utf16) at 1");
+    has_text(&rt, b"\xFE\xFF\0<\xD8\x3D", "< then NotEncoded(Utf16) at 1");
+    has_text(
+        &rt,
+        b"\xFE\xFF\0<\xD8\x3D\0a",
+        "< then NotEncoded(Utf16) at 1",
+    );
+    has_text(&rt, b"\xFF\xFE<\0\x3D", "< then NotEncoded(Utf16) at 1");
     has_text(
         &rt,
         b"\xFE\xFF\0<\xDC\x00\0a",

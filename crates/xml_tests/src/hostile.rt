@@ -13,6 +13,11 @@ fn deep(rt: HostRuntime) -> Result<(), AllocError> {
     let text = format!(in rt.alloc(); "{opening}<b/>{closing}")?;
     let got = lines(rt.alloc(), text.as_str())?;
     assert_eq!(rt; got.as_str(), "Deep at 1536\n");
+    let fault = read_document(rt.alloc(), text.as_str())
+        .err()
+        .expect(&rt, "a document");
+    let got = format!(in rt.alloc(); "{}", fault.sentence(text.as_str()))?;
+    assert_eq!(rt; got.as_str(), "more than 512 elements are open");
     Ok(())
 }
 

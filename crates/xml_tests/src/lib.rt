@@ -12,6 +12,8 @@ mod infosets;
 #[cfg(test)]
 mod namespaces;
 #[cfg(test)]
+mod productions;
+#[cfg(test)]
 mod rows;
 #[cfg(test)]
 mod sentences;

@@ -59,6 +59,54 @@ a name is missing
 =>
 xmlns:xml can't declare this namespace
 --
+<?xml version="1"?><a/>
+=>
+this is no XML declaration at the start of a document
+--
+<a>&</a>
+=>
+this is no reference: & itself is &amp;
+--
+<a>&#0;</a>
+=>
+this refers to a character that no XML document has
+--
+<a b/>
+=>
+an attribute has = behind its name
+--
+<a b="1
+=>
+this value is not closed
+--
+<a/b>
+=>
+a tag goes on with white space and an attribute, or ends
+--
+<a>]]></a>
+=>
+]]> can't stand in text
+--
+<a><!-- -- --></a>
+=>
+this comment is not closed, or has -- within it
+--
+<a><?1?></a>
+=>
+this processing instruction is not closed, or has no name
+--
+<a><![CDATA[</a>
+=>
+this CDATA section is not closed
+--
+<a></b:c></a>
+=>
+this closes b:c, but a is open
+--
+<a xmlns:p="u" xmlns:q="u" p:b="1" q:b="2"/>
+=>
+the attribute q:b is given twice
+--
 =>
 there is no root element
 "##;
@@ -80,6 +128,11 @@ fn rows(rt: HostRuntime) {
             None => has_sentence(&rt, "", row.trim_start_matches("=>\n")),
         }
     }
+}
+
+#[test]
+fn character(rt: HostRuntime) {
+    has_sentence(&rt, "<a>\u{1}</a>", "no XML document has this character");
 }
 
 #[test]

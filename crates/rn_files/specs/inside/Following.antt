@@ -1,9 +1,8 @@
 -- What was found and read of files, and which files references lead to.
 use Rattle.std.specs.Prelude.{◌≡◌, ℕ, ◌≤◌, Bool, List, take, MatchOption, Option, Some, None, string_bytes, vec_len}
 use Rattle.std.specs.Borrow.{Bor}
-use Rattle.rn_files.specs.Maps.{IsLocation}
+use Rattle.rn_files.specs.Maps.{Groups, IsLocation}
 use Rattle.rn_files.specs.ReadableFiles.{Gives, IsKept, IsReadAt, IsTextRead, Leads, Reads, with_slash}
-use Rattle.rn_files.specs.declared.maps.Map.{Map}
 use Rattle.rn_files.specs.declared.bounds.Ways.{Ways}
 use Rattle.rn_files.specs.declared.root_folder.RootFolder.{RootFolder}
 use Rattle.rn_files.specs.declared.walk.Followed.{Followed}
@@ -35,7 +34,7 @@ IsFollowed reads f =
 
 -- a URI leads to the file at this path: it lies at a place (below the folder of a map, or at the path of a `file` URI), and what is
 -- there is the file, whose one path this is
-abbrev pub IsFoundAt : Leads → List Map → List ℕ → List ℕ → Type 0
+abbrev pub IsFoundAt : Leads → Groups → List ℕ → List ℕ → Type 0
 IsFoundAt leads maps uri path = (place : List ℕ) × (is_mapped : Bool) × IsLocation maps uri place is_mapped × leads place path
 
 -- the text is a front of the bytes

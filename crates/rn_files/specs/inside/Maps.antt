@@ -1,8 +1,9 @@
--- The longest prefix of a URI, as maps are looked at one after the other.
+-- The map that counts for a URI, as maps are looked at one after the other.
 use Rattle.std.specs.Prelude.{ℕ, List, length, nat_lt, Option, Some, None, if◌then◌else◌}
+use Rattle.rn_files.specs.declared.maps.Map.{Map}
 
--- of two folders with what their maps leave, the one that leaves less; the first of equals
-abbrev pub chosen : Option (List ℕ × List ℕ) → List ℕ → Option (List ℕ) → Option (List ℕ × List ℕ)
-chosen best folder None = best
-chosen None folder (Some rest) = Some (folder, rest)
-chosen (Some b) folder (Some rest) = if nat_lt (length rest) (length b.1) then Some (folder, rest) else Some b
+-- of two maps with what they leave, the one that leaves less; the first of equals
+abbrev pub chosen : Option (Map × List ℕ) → Map → Option (List ℕ) → Option (Map × List ℕ)
+chosen best m None = best
+chosen None m (Some rest) = Some (m, rest)
+chosen (Some b) m (Some rest) = if nat_lt (length rest) (length b.1) then Some (m, rest) else Some b

@@ -1,0 +1,57 @@
+// Where URIs lie, by the words of a job and by the catalogs that they name.
+use crate::flat_fault::FlatFault;
+use crate::words::Job;
+use rn_files::{CatalogRefusal, CatalogsFault, Files, Map, read_catalogs};
+use rn_report::{Format, catalog_text, is_unread_catalog};
+use std::alloc::{AllocError, Global};
+
+/// The maps of a job, in groups: first those of its words, and then what its catalogs say. `Unread` where a catalog can't
+/// be read, `Refused` where one is at fault.
+pub fn job_maps<F: Files>(
+    alloc: Global,
+    files: &F,
+    job: &Job,
+    format: Format,
+) -> Result<Vec<Vec<Map>>, FlatFault> {
+    let mut groups = Vec::new(alloc);
+    groups.push(copies_of(alloc, job.maps.as_slice())?)?;
+    match read_catalogs(alloc, files, job.catalogs.as_slice()) {
+        Ok(said) => {
+            append(&mut groups, said)?;
+            Ok(groups)
+        }
+        Err(CatalogsFault::Refused(refusal)) => Err(refused(alloc, &refusal, format)?),
+        Err(CatalogsFault::Memory) => Err(FlatFault::Memory),
+    }
+}
+
+/// Puts groups behind others.
+fn append(groups: &mut Vec<Vec<Map>>, others: Vec<Vec<Map>>) -> Result<(), AllocError> {
+    for group in others {
+        groups.push(group)?;
+    }
+    Ok(())
+}
+
+/// Copies of maps.
+fn copies_of(alloc: Global, maps: &[Map]) -> Result<Vec<Map>, AllocError> {
+    let mut copies = Vec::new(alloc);
+    for map in maps {
+        copies.push(map.clone()?)?;
+    }
+    Ok(copies)
+}
+
+/// The fault of catalogs that are refused.
+fn refused(
+    alloc: Global,
+    refusal: &CatalogRefusal,
+    format: Format,
+) -> Result<FlatFault, AllocError> {
+    let lines = catalog_text(alloc, refusal, format)?;
+    if is_unread_catalog(refusal) {
+        Ok(FlatFault::Unread(lines))
+    } else {
+        Ok(FlatFault::Refused(lines))
+    }
+}
