@@ -61,14 +61,25 @@ def bodies_of(crate):
     found = [read_body(crate, name) for name in names]
     good = [body for body in found if body and is_there(body, text_of(body)) and changed(text_of(body), body)]
     for name in {*names} - {f"{body.name}.edit" for body in good}:
-        print(f"{crate}/{name}: it changes no function, one that its file doesn't have, or a text that does not stand once there")
+        print(f"{crate}/{name}: it changes no function, one that its file does not have, or a text that does not stand once there, or in another function")
     return good, len(names) - len(good)
 
 
 def is_there(body, text):
-    """Whether the text of its file has the function of a wrong body. A closure, or what the toolchain makes of a call in it, has no text of its own."""
+    """Whether the text of its file has the function of a wrong body, and what is changed first is in no other one. A closure, or what the toolchain
+    makes of a call in it, has no text of its own."""
+    if "::fn::" in body.function:
+        return True
+    names = {name for begin, end, name in functions_in(text) if begin <= text.find(body.changes[0][0]) <= end}
     name = body.function.rpartition("::")[2]
-    return "::fn::" in body.function or re.search(rf"\bfn {re.escape(name)}\b", text) is not None
+    return re.search(rf"\bfn {re.escape(name)}\b", text) is not None and (not names or name in names)
+
+
+def functions_in(text):
+    """Where the functions of a text begin and end, as `rt fmt` leaves them, and their names."""
+    for head in re.finditer(r"(?m)^( *)(?:pub(?:\(\w+\))? )?(?:const )?fn (\w+)", text):
+        end = text.find(f"\n{head[1]}}}\n", head.start())
+        yield head.start(), end if end >= 0 else len(text), head[2]
 
 
 def edited(bodies):
