@@ -206,6 +206,12 @@ chmod 444 open/flat.rnc
 if as_user test -x "$program" && as_user test -r "$PWD/a.rnc"; then
     as_user "$program" -o open/flat.rnc a.rnc >got.out 2>got.err
     if [ $? -eq 3 ] && [ "$(cat got.err)" = "rnc-flat: error: open/flat.rnc can't be written: permission denied" ] && [ "$(cat open/flat.rnc)" = old ]; then pass; else fail "mode 444: $(cat got.err)"; fi
+    printf 'include "closed.rnc"\n' >open/main.rnc
+    echo 'start = text' >open/closed.rnc
+    chmod 644 open/main.rnc
+    chmod 000 open/closed.rnc
+    as_user "$program" open/main.rnc >got.out 2>got.err
+    if [ $? -eq 3 ] && [ "$(head -1 got.err)" = "open/main.rnc:1:9: error: open/closed.rnc: the file can't be read: permission denied" ]; then pass; else fail "mode 000: $(cat got.err)"; fi
 fi
 rm -rf open got.out got.err
 # a text of a megabyte

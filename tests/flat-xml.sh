@@ -127,6 +127,20 @@ mkfifo pipe.fifo
 printf '<grammar %s><include href="pipe.fifo"/></grammar>\n' "$rng" >pipe.rng
 row pipe 3 '' "pipe.rng:1:69: error: pipe.fifo: this is not a regular file\n    <grammar $rng><include href=\"pipe.fifo\"/></grammar>\n$(printf '%72s')^\n" pipe.rng
 
+# ---- refusals speak of what the XML syntax has
+printf '<element %s name="a"><text/></element>\n' "$rng" >pattern.rng
+printf '<grammar %s>\n  <include href="pattern.rng"/>\n</grammar>\n' "$rng" >included.rng
+told included 2:18 'the file is a pattern, and only a grammar can be included; externalRef takes a pattern'
+printf '<grammar %s>\n  <start><parentRef name="a"/></start>\n</grammar>\n' "$rng" >parent.rng
+told parent 2:10 'there is no grammar around this one that parentRef could mean'
+printf '<grammar %s>\n  <start><text/></start>\n  <start><empty/></start>\n</grammar>\n' "$rng" >plain.rng
+told plain 2:3 '`start` is defined here and in plain.rng:3:3, both times without combine'
+printf '<grammar %s>\n  <start combine="interleave"><text/></start>\n  <start combine="choice"><empty/></start>\n</grammar>\n' "$rng" >mixed.rng
+told mixed 3:3 '`start` is combined by choice here, and by interleave in mixed.rng:2:3'
+printf '<grammar %s>\n  <define name="a"><text/></define>\n</grammar>\n' "$rng" >once.rng
+printf '<grammar %s>\n  <include href="once.rng"/>\n  <include href="once.rng"/>\n  <start><ref name="a"/></start>\n</grammar>\n' "$rng" >twice.rng
+row twice 1 '' 'once.rng:2:17: error: `a` is defined here without combine, and comes twice: by the includes in twice.rng:2:18 and in twice.rng:3:18\n      <define name="a"><text/></define>\n                    ^\n' twice.rng
+
 # ---- what is told of a schema leads back to the XML
 printf '<grammar %s>\n <start><ref name="a"/></start>\n <define name="a"><element name="a"><text/></element></define>\n <define name="b"><text/></define>\n</grammar>\n' "$rng" >told.rng
 row unused 1 'told.rng:4:16: b\n' '' --unused told.rng

@@ -304,7 +304,7 @@ row map_longest 0 'default namespace = ""\nstart = name\nname = element name { e
     --map http://example.org/schema/=local --map http://example.org/schema/deep/=other main.rnc
 row map_names 0 'http://example.org/schema/deep/text.rnc local/deep/text.rnc\nhttp://example.org/schema/name.rnc local/name.rnc\nmain.rnc main.rnc\n' '' \
     --list --map http://example.org/schema/=local main.rnc
-row no_map 1 '' 'main.rnc:1:9: error: no map says where http://example.org/schema/name.rnc lies\n    include "http://example.org/schema/name.rnc"\n            ^\n' main.rnc
+row no_map 1 '' 'main.rnc:1:9: error: no --map or --catalog says where http://example.org/schema/name.rnc lies\n    include "http://example.org/schema/name.rnc"\n            ^\n' main.rnc
 
 # A prefix is any front of a URI, with what comes behind it below the folder; the last `=` ends it. What a file at a URN refers to is
 # looked for beside the file.
@@ -540,6 +540,24 @@ grammars() { printf 'start = element a { empty'; for n in $(seq 200); do printf 
 row grown 1 '' "rnc-flat: error: what the files become is longer than they are by more than 16,777,216 bytes: a file's declarations go along with each grammar in it, and a file that is used in several ways is written for each\n" grown.rnc
 { declared 2700; grammars; } >growing.rnc
 if "$program" growing.rnc >got.out 2>got.err && grep -q '^start = ' got.out; then pass; else fail "growing: $(head -1 got.err)"; fi
+# a file and 1,024 nested grammars
+{
+    printf 'start = element a { empty'
+    for n in $(seq 1024); do printf ', grammar { start = empty }'; done
+    echo ' }'
+} >modules.rnc
+row many_modules 1 '' 'rnc-flat: error: the files become more than 1,024 modules\n' modules.rnc
+# what three excepts refer to has 1.5 MB
+{
+    printf 'start = element a { xsd:string - (b) }\nc = xsd:string - (b)\nd = xsd:string - (b)\nb = "a"'
+    for n in $(seq 100000); do printf ' | "%010d"' "$n"; done
+    echo
+} >excepted.rnc
+row excepted_long 1 '' 'excepted.rnc:3:19: error: what is excepted by names becomes longer than 4,194,304 bytes\n    d = xsd:string - (b)\n                      ^\n' excepted.rnc
+sed '/^d = /d' excepted.rnc >fewer.rnc
+begins module_long 1 'fewer.rnc:1:1: error: the text of a module is longer than 4,194,304 bytes' fewer.rnc
+sed '/^[cd] = /d' excepted.rnc >fewer.rnc
+if "$program" fewer.rnc >got.out 2>got.err && grep -q '^start = ' got.out; then pass; else fail "one_except: $(head -1 got.err)"; fi
 {
     printf 'start = '
     for n in $(seq 150000); do printf 'element name-of-an-element-number-%d { text } |\n' "$n"; done
@@ -605,7 +623,7 @@ bad checked 1 "$builtin_lines$except_lines$prefix_lines" checked.rnc
 printf 'include "prefix.rnc"\ninclude "comma.rnc"\n' >both.rnc
 bad both 1 "$comma_lines$prefix_lines" both.rnc
 printf 'include "http://x/y"\ninclude "none.rnc"\ninclude "prefix.rnc"\nstart = element p:a { text }\ninclude "%%"\n' >links.rnc
-bad links 3 'rnc-flat: error: nowhere.rnc: no such file\nlinks.rnc:1:9: error: no map says where http://x/y lies\n    include "http://x/y"\n            ^\nlinks.rnc:2:9: error: none.rnc: no such file\n    include "none.rnc"\n            ^\nlinks.rnc:4:17: error: the prefix `p` is not declared\n    start = element p:a { text }\n                    ^\nlinks.rnc:5:9: error: a % is not followed by two hexadecimal digits\n    include "%"\n            ^\n'"$prefix_lines" links.rnc nowhere.rnc
+bad links 3 'rnc-flat: error: nowhere.rnc: no such file\nlinks.rnc:1:9: error: no --map or --catalog says where http://x/y lies\n    include "http://x/y"\n            ^\nlinks.rnc:2:9: error: none.rnc: no such file\n    include "none.rnc"\n            ^\nlinks.rnc:4:17: error: the prefix `p` is not declared\n    start = element p:a { text }\n                    ^\nlinks.rnc:5:9: error: a % is not followed by two hexadecimal digits\n    include "%"\n            ^\n'"$prefix_lines" links.rnc nowhere.rnc
 printf 'start = parent x\n' >lifted.rnc
 bad lifted 1 'lifted.rnc:1:9: error: there is no grammar around this one that parent could mean\n    start = parent x\n            ^\n'"$prefix_lines" prefix.rnc lifted.rnc
 {
@@ -673,7 +691,7 @@ include includes_itself 1 'the file refers to itself: include.rnc, include.rnc' 
 printf 'element note { text }\n' >note.rnc
 include include_pattern 1 'the file is a pattern, and only a grammar can be included; external takes a pattern' 'note.rnc'
 include host 1 'the reference names a host' 'file://host/x.rnc'
-include scheme 1 'no map says where http://example.org/x.rnc lies' 'http://example.org/x.rnc'
+include scheme 1 'no --map or --catalog says where http://example.org/x.rnc lies' 'http://example.org/x.rnc'
 include above 1 '`..` leads above the topmost folder' '../../../../../../../../../../../../../../../../../../../../x.rnc'
 for up in %2e%2e %2E%2E %2e%2E .%2e .%2E %2e. %2E.; do
     include "above $up" 1 '`..` leads above the topmost folder' "file:///$up/x.rnc"
@@ -711,6 +729,8 @@ mkdir many
     echo 'start = text'
 } >many.rnc
 bad files_many 1 'many.rnc:1024:9: error: there are more than 1,024 files\n    include "many/1024.rnc"\n            ^\n' many.rnc
+for n in $(seq 1025 1030); do : >"many/$n.rnc"; done
+bad words_many 1 'rnc-flat: error: many/1025.rnc: there are more than 1,024 files\n' $(seq -f 'many/%g.rnc' 1030)
 printf 'x |= text\n' >'a b.rnc'
 printf 'include "a%%20b.rnc"\nstart = x\n' >spaced.rnc
 row escaped 0 'default namespace = ""\nstart = x\nx = text\n' '' spaced.rnc

@@ -45,13 +45,55 @@ succeeds build_help "$top/build" --help
 "$program" --help | grep -oE '^ +(-[a-zA-Z], )?--[a-z-]+' | grep -oE -- '--?[a-zA-Z-]+' | sort >help.options
 "$top/man/completions" --options rnc-flat | sort >own.options
 same options_completed help.options own.options
+has() { command -v "$1" >/dev/null; }
 for name in rnc-flat rnc-merge; do
-    succeeds "bash_completion_$name" bash -n <("$top/man/completions" bash $name)
+    for shell in bash zsh fish; do
+        "$top/man/completions" $shell $name >completion.$shell.$name
+        if has $shell; then succeeds "${shell}_completion_$name" $shell -n completion.$shell.$name; fi
+    done
 done
-said=$(bash -c 'source <("$1" bash rnc-flat); COMP_WORDS=(rnc-flat --ma); COMP_CWORD=1; _rnc_flat; echo "${COMPREPLY[*]}"' - "$top/man/completions")
-if [ "$said" = --map ]; then pass; else fail "completed: $said"; fi
-said=$(bash -c 'source <("$1" bash rnc-merge); COMP_WORDS=(rnc-merge wi); COMP_CWORD=1; _rnc_merge; echo "${COMPREPLY[*]}"' - "$top/man/completions")
-if [ "$said" = withdraw ]; then pass; else fail "completed: $said"; fi
+
+# completes NAME WANTED PROGRAM WORD..: bash, which parts words at = and :, offers these for the last word.
+completes() {
+    local name=$1 wanted=$2 got
+    shift 2
+    got=$(bash -c 'source "completion.bash.$1"; COMP_WORDS=("$@"); COMP_CWORD=$(($# - 1)); _${1/-/_}; echo "${COMPREPLY[*]}"' - "$@")
+    if [ "$got" = "$wanted" ]; then pass; else fail "$name: $got"; fi
+}
+mkdir vendor && touch written.rnc
+completes bash_option --map rnc-flat --ma
+completes bash_command withdraw rnc-merge wi
+completes bash_file written.rnc rnc-flat -o wr
+completes bash_folder vendor rnc-flat --root ve
+completes bash_map '' rnc-flat --map ve
+completes bash_map_folder vendor rnc-flat --map http : //x/ = ve
+completes bash_word 'auto always' rnc-flat --color a
+completes bash_word_behind_equals never rnc-flat --color = n
+completes bash_file_behind_equals written.rnc rnc-flat --output = wr
+completes bash_nothing_behind_equals 'text json' rnc-flat --format =
+
+# reads NAME WANTED WORD..: what the command writes.
+reads() {
+    local name=$1 wanted=$2 got
+    shift 2
+    got=$("$@" 2>&1)
+    if [ "$got" = "$wanted" ]; then pass; else fail "$name: $got"; fi
+}
+if has zsh; then
+    reads zsh_options "(--unused)--unused[Write where the definitions are that the start doesn't reach]
+(-o --output)--output=[Write to this file, whole or not at all]:file:_files
+*--map=[Look in a folder for what a URI refers to]:PREFIX=FOLDER:{compset -P '*=' && _files -/}
+(--color)--color=[When messages are in colours]:word:(auto always never)
+*:file:_files" zsh -fc '_arguments() { for it in "--unused[" "--output=" "--map=" "--color=" "*:"; do print -r -- ${(M)@:#*$it*}; done }
+        source completion.zsh.rnc-flat'
+fi
+if has fish; then
+    offers() { fish --no-config -c "source completion.fish.$1; complete -C '$1 $2'"; }
+    reads fish_option "$(printf "%s\t%s" --unused "Write where the definitions are that the start doesn't reach")" offers rnc-flat --un
+    reads fish_word "$(printf '%s\tWhen messages are in colours\n' always auto)" offers rnc-flat '--color a'
+    reads fish_map_folder http://x/=vendor/ offers rnc-flat '--map http://x/=ve'
+    reads fish_command "$(printf 'withdraw\tWrite the bundle of one withdrawal')" offers rnc-merge wi
+fi
 
 # ---- the manual pages have no fault, and an entry for each line of rnc-merge
 for page in rnc-flat rnc-merge; do

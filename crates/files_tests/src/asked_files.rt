@@ -1,15 +1,15 @@
 // What is answered where files in memory are asked for, as rows write them.
 use crate::comparing::{expect_text, same_for};
 use rn_files::{
-    Asked, CatalogRefusal, CatalogsFault, Map, MemoryFiles, Reading, ReadingFault, Sources,
-    read_catalogs, read_files, read_sources,
+    Asked, FaultPlace, LinkFault, Map, MemoryFiles, Reading, ReadingFault, ReferenceFault,
+    SourceFaultKind, Sources, Tried, read_catalogs, read_files, read_sources,
 };
 use std::alloc::{AllocError, Global};
 use std::process::Abort;
 
 /// What a row gives.
 #[derive(Drop)]
-struct Given {
+struct Row {
     files: MemoryFiles,
     words: Vec<String>,
     root: Option<String>,
@@ -21,42 +21,42 @@ struct Given {
 /// Takes in a line of a row: its kind, and the one or two words behind it.
 fn take_line(
     alloc: Global,
-    given: &mut Given,
+    row: &mut Row,
     kind: &str,
     first: &str,
     second: &str,
 ) -> Result<(), AllocError> {
     match kind {
-        "file" => given.files.add_file(alloc, first, second.as_bytes()),
-        "pipe" => given.files.add_pipe(alloc, first, second.as_bytes()),
-        "link" => given.files.add_link(alloc, first, second),
-        "swapped" => given.files.add_swapped(alloc, first, second),
-        "word" => Ok(given.words.push(String::from_str(alloc, first)?)?),
-        "catalog" => Ok(given.catalogs.push(String::from_str(alloc, first)?)?),
+        "file" => row.files.add_file(alloc, first, second.as_bytes()),
+        "pipe" => row.files.add_pipe(alloc, first, second.as_bytes()),
+        "link" => row.files.add_link(alloc, first, second),
+        "swapped" => row.files.add_swapped(alloc, first, second),
+        "word" => Ok(row.words.push(String::from_str(alloc, first)?)?),
+        "catalog" => Ok(row.catalogs.push(String::from_str(alloc, first)?)?),
         "root" => {
-            given.root = Some(String::from_str(alloc, first)?);
+            row.root = Some(String::from_str(alloc, first)?);
             Ok(())
         }
         "input" => {
-            given.input = Some(String::from_str(alloc, first)?);
+            row.input = Some(String::from_str(alloc, first)?);
             Ok(())
         }
-        _ => add_map(alloc, given, first, second),
+        _ => add_map(alloc, row, first, second),
     }
 }
 
 /// Adds a map to what a row gives.
-fn add_map(alloc: Global, given: &mut Given, prefix: &str, folder: &str) -> Result<(), AllocError> {
+fn add_map(alloc: Global, row: &mut Row, prefix: &str, folder: &str) -> Result<(), AllocError> {
     let map = Map::below(alloc, prefix, folder)?;
-    match given.maps.first_mut() {
+    match row.maps.first_mut() {
         Some(group) => Ok(group.push(map)?),
         None => Ok(()),
     }
 }
 
 /// What a row gives, read from its lines. The current folder is `/w`.
-fn given_of(alloc: Global, lines: &str) -> Result<Given, AllocError> {
-    let mut given = Given {
+fn row_of(alloc: Global, lines: &str) -> Result<Row, AllocError> {
+    let mut row = Row {
         files: MemoryFiles::new(alloc, "/w")?,
         words: Vec::new(alloc),
         root: None,
@@ -67,9 +67,9 @@ fn given_of(alloc: Global, lines: &str) -> Result<Given, AllocError> {
     for line in lines.split('\n') {
         let (kind, rest) = line.split_once('\t').unwrap_or((line, ""));
         let (first, second) = rest.split_once('\t').unwrap_or((rest, ""));
-        take_line(alloc, &mut given, kind, first, second)?;
+        take_line(alloc, &mut row, kind, first, second)?;
     }
-    Ok(given)
+    Ok(row)
 }
 
 /// The names and the targets of sources, and the roots.
@@ -84,12 +84,47 @@ fn sources_line(alloc: Global, sources: &Sources) -> Result<String, AllocError> 
     Ok(out)
 }
 
+/// Whether a message on a fault tells what was tried.
+fn tells_tried(place: FaultPlace, fault: LinkFault) -> bool {
+    matches!(place, FaultPlace::Text { .. } | FaultPlace::Catalogs)
+        && matches!(
+            fault,
+            LinkFault::File(_)
+                | LinkFault::Reference(
+                    ReferenceFault::Scheme | ReferenceFault::Elsewhere | ReferenceFault::Delegated,
+                )
+        )
+}
+
+/// Why a link leads to no file, and what was tried for it where a message tells that.
+fn push_link(
+    out: &mut String,
+    place: FaultPlace,
+    fault: LinkFault,
+    tried: &Tried,
+) -> Result<(), AllocError> {
+    write!(out, "{fault:?}")?;
+    if tells_tried(place, fault) {
+        let place = &tried.place;
+        write!(out, " {place:?}")?;
+        if let Some(uri) = &tried.uri {
+            write!(out, " for {uri:?}")?;
+        }
+    }
+    Ok(())
+}
+
 /// The faults of files.
 fn faults_line(alloc: Global, reading: &Reading) -> Result<String, AllocError> {
     let mut out = String::new(alloc);
     for fault in &reading.faults {
-        let (place, kind) = (fault.place, &fault.kind);
-        write!(out, "{place:?} {kind:?};")?;
+        let place = fault.place;
+        write!(out, "{place:?} ")?;
+        match &fault.kind {
+            SourceFaultKind::Link { fault, tried } => push_link(&mut out, place, *fault, tried)?,
+            kind => write!(out, "{kind:?}")?,
+        }
+        out.push_str(";")?;
     }
     Ok(out)
 }
@@ -107,44 +142,49 @@ pub fn answer_line(
 }
 
 /// Adds what catalogs say to what a row gives.
-fn add_groups(given: &mut Given, groups: Vec<Vec<Map>>) -> Result<(), AllocError> {
+fn add_groups(row: &mut Row, groups: Vec<Vec<Map>>) -> Result<(), AllocError> {
     for group in groups {
-        given.maps.push(group)?;
+        row.maps.push(group)?;
     }
     Ok(())
 }
 
-/// The refusal of a catalog.
-fn refusal_line(alloc: Global, refusal: &CatalogRefusal) -> Result<String, AllocError> {
-    let (shown, at, kind) = (&refusal.shown, refusal.at, &refusal.kind);
-    format!(in alloc; "{shown} {at:?} {kind:?}")
+/// The fault of catalogs, behind the catalog that it is in.
+fn catalog_line(alloc: Global, reading: &Reading) -> Result<String, AllocError> {
+    let mut out = String::new(alloc);
+    for file in &reading.files {
+        out.push_str(file.shown.as_str())?;
+        out.push_str(" ")?;
+    }
+    out.push_str(faults_line(alloc, reading)?.as_str())?;
+    Ok(out)
 }
 
 /// What is answered for a row.
 fn answer_for_row(alloc: Global, lines: &str) -> Result<String, AllocError> {
-    let mut given = given_of(alloc, lines)?;
-    match read_catalogs(alloc, &given.files, given.catalogs.as_slice()) {
-        Ok(groups) => add_groups(&mut given, groups)?,
-        Err(CatalogsFault::Refused(refusal)) => return refusal_line(alloc, &refusal),
-        Err(CatalogsFault::Memory) => return Err(AllocError),
+    let mut row = row_of(alloc, lines)?;
+    match read_catalogs(alloc, &row.files, row.catalogs.as_slice()) {
+        Ok(groups) => add_groups(&mut row, groups)?,
+        Err(ReadingFault::Faults(reading)) => return catalog_line(alloc, &reading),
+        Err(ReadingFault::Memory) => return Err(AllocError),
     }
-    answer_line(alloc, read_sources(alloc, &given.files, &asked_by(&given)))
+    answer_line(alloc, read_sources(alloc, &row.files, &asked_by(&row)))
 }
 
 /// What a row asks for.
-fn asked_by(given: &Given) -> Asked<'_> {
+fn asked_by(row: &Row) -> Asked<'_> {
     Asked {
-        files: given.words.as_slice(),
-        root: given.root.as_ref().map(|root| root.as_str()),
-        maps: given.maps.as_slice(),
-        input: given.input.as_ref().map(|input| input.as_str()),
+        files: row.words.as_slice(),
+        root: row.root.as_ref().map(|root| root.as_str()),
+        maps: row.maps.as_slice(),
+        input: row.input.as_ref().map(|input| input.as_str()),
     }
 }
 
 /// How the files of a row are told, and the loop that they are in, if they are in one.
 fn told_for_row(alloc: Global, lines: &str) -> Result<String, AllocError> {
-    let given = given_of(alloc, lines)?;
-    let linked = match read_files(alloc, &given.files, &asked_by(&given)) {
+    let row = row_of(alloc, lines)?;
+    let linked = match read_files(alloc, &row.files, &asked_by(&row)) {
         Ok(linked) => linked,
         Err(ReadingFault::Faults(reading)) => return faults_line(alloc, &reading),
         Err(ReadingFault::Memory) => return Err(AllocError),

@@ -64,11 +64,11 @@ fn files_beside_are_found(rt: HostRuntime) {
 static BOUNDS: [(&str, &str); 5] = [
     (
         "file\t/w/a.rnc\tinclude 'urn:x' include 'urn:y:b' include 'urn:z:c'\nfile\t/w/c.xml\t<catalog xmlns='urn:oasis:names:tc:entity:xmlns:xml:catalog'><uri name='urn:x' uri='http://h/x'/><rewriteURI uriStartString='urn:y:' rewritePrefix='https://h/'/><delegateURI uriStartString='urn:z:' catalog='d.xml'/><uri name='urn:none' uri='?'/></catalog>\nword\ta.rnc\ncatalog\tc.xml",
-        "Text { file: 0, at: 8 } Elsewhere { uri: \"urn:x\", target: \"http://h/x\" };Text { file: 0, at: 24 } Elsewhere { uri: \"urn:y:b\", target: \"https://h/b\" };Text { file: 0, at: 42 } Delegated { uri: \"urn:z:c\", catalog: \"file:///w/d.xml\" };",
+        "Text { file: 0, at: 8 } Reference(Elsewhere) \"http://h/x\" for \"urn:x\";Text { file: 0, at: 24 } Reference(Elsewhere) \"https://h/b\" for \"urn:y:b\";Text { file: 0, at: 42 } Reference(Delegated) \"file:///w/d.xml\" for \"urn:z:c\";",
     ),
     (
         "file\t/w/a.rnc\tinclude 'urn:x:..' include 'urn:x:%2e%2e/b' include 'urn:x:a%2Fb' include 'urn:x:none'\nfile\t/w/m/b\t\nfile\t/w/c.xml\t<catalog xmlns='urn:oasis:names:tc:entity:xmlns:xml:catalog'><rewriteURI uriStartString='urn:x:' rewritePrefix='m/'/></catalog>\nword\ta.rnc\ncatalog\tc.xml",
-        "Text { file: 0, at: 8 } Reference(Above);Text { file: 0, at: 27 } Reference(Above);Text { file: 0, at: 52 } Reference(Byte);Text { file: 0, at: 74 } Mapped { uri: \"urn:x:none\", path: \"m/none\", fault: Missing };",
+        "Text { file: 0, at: 8 } Reference(Above);Text { file: 0, at: 27 } Reference(Above);Text { file: 0, at: 52 } Reference(Byte);Text { file: 0, at: 74 } File(Missing) \"m/none\" for \"urn:x:none\";",
     ),
     (
         "file\t/w/a.rnc\tinclude 'urn:x:./b'\nfile\t/w/m/.b\t\nfile\t/w/c.xml\t<catalog xmlns='urn:oasis:names:tc:entity:xmlns:xml:catalog'><rewriteURI uriStartString='urn:x:' rewritePrefix='m/.'/></catalog>\nword\ta.rnc\ncatalog\tc.xml",
@@ -93,31 +93,31 @@ fn entries_bound_what_they_find(rt: HostRuntime) {
 static REFUSED: [(&str, &str); 7] = [
     (
         "word\ta.rnc\ncatalog\tnone.xml",
-        "none.xml None File { path: \"none.xml\", fault: Missing }",
+        "Catalogs File(Missing) \"none.xml\";",
     ),
     (
         "pipe\t/w/c.xml\t\nword\ta.rnc\ncatalog\tc.xml",
-        "c.xml None File { path: \"c.xml\", fault: Special }",
+        "Catalogs File(Special) \"c.xml\";",
     ),
     (
         "file\t/w/k/c.xml\t<catalog xmlns='urn:oasis:names:tc:entity:xmlns:xml:catalog'><nextCatalog catalog='n.xml'/></catalog>\nword\ta.rnc\ncatalog\tk/c.xml",
-        "k/c.xml Some(83) File { path: \"k/n.xml\", fault: Missing }",
+        "k/c.xml Text { file: 0, at: 83 } File(Missing) \"k/n.xml\";",
     ),
     (
         "file\t/w/c.xml\t<catalog xmlns='urn:oasis:names:tc:entity:xmlns:xml:catalog'><nextCatalog catalog='k/n.xml'/></catalog>\nfile\t/w/k/n.xml\t<catalog xmlns='urn:oasis:names:tc:entity:xmlns:xml:catalog'><nextCatalog catalog='../c.xml'/></catalog>\nword\ta.rnc\ncatalog\tc.xml",
-        "k/n.xml Some(83) Loop",
+        "k/n.xml Text { file: 0, at: 83 } CatalogLoop;",
     ),
     (
         "file\t/w/c.xml\t<catalog xmlns='urn:oasis:names:tc:entity:xmlns:xml:catalog'><nextCatalog catalog='http://h/c.xml'/></catalog>\nword\ta.rnc\ncatalog\tc.xml",
-        "c.xml Some(83) Elsewhere(\"http://h/c.xml\")",
+        "c.xml Text { file: 0, at: 83 } FarCatalog(\"http://h/c.xml\");",
     ),
     (
         "file\t/w/c.xml\t<catalog/>\nword\ta.rnc\ncatalog\tc.xml",
-        "c.xml Some(0) Text(Root)",
+        "c.xml Text { file: 0, at: 0 } Catalog(Root);",
     ),
     (
         "file\t/w/c.xml\t<catalog\nword\ta.rnc\ncatalog\tc.xml",
-        "c.xml Some(8) Text(Document(Tag))",
+        "c.xml Text { file: 0, at: 8 } Catalog(Document(Tag));",
     ),
 ];
 

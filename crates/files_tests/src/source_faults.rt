@@ -4,7 +4,7 @@ use crate::asked_files::each_answered;
 /// References that lead to no file.
 static REFERENCES: [(&str, &str); 1] = [(
     "file\t/w/a.rnc\tinclude '' include 'file://h/x' include 'http://h/x' include 'x#y' include 'x?y' include '%00' include 'a%2Fb' include '%' include '%FF' include 'file:x' include 'none.rnc' include 'd'\nfile\t/w/d/x\t\nword\ta.rnc",
-    "Text { file: 0, at: 8 } Reference(Empty);Text { file: 0, at: 19 } Reference(Host);Text { file: 0, at: 40 } Unmapped(\"http://h/x\");Text { file: 0, at: 61 } Reference(Fragment);Text { file: 0, at: 75 } Reference(Query);Text { file: 0, at: 89 } Reference(Byte);Text { file: 0, at: 103 } Reference(Byte);Text { file: 0, at: 119 } Reference(Escape);Text { file: 0, at: 131 } Reference(Encoding);Text { file: 0, at: 145 } Reference(Relative);Text { file: 0, at: 162 } Target { path: \"none.rnc\", fault: Missing };Text { file: 0, at: 181 } Target { path: \"d\", fault: Folder };",
+    "Text { file: 0, at: 8 } Reference(Empty);Text { file: 0, at: 19 } Reference(Host);Text { file: 0, at: 40 } Reference(Scheme) \"http://h/x\";Text { file: 0, at: 61 } Reference(Fragment);Text { file: 0, at: 75 } Reference(Query);Text { file: 0, at: 89 } Reference(Byte);Text { file: 0, at: 103 } Reference(Byte);Text { file: 0, at: 119 } Reference(Escape);Text { file: 0, at: 131 } Reference(Encoding);Text { file: 0, at: 145 } Reference(Relative);Text { file: 0, at: 162 } File(Missing) \"none.rnc\";Text { file: 0, at: 181 } File(Folder) \"d\";",
 )];
 
 #[test]
@@ -16,7 +16,7 @@ fn references_have_their_faults(rt: HostRuntime) {
 static PIPES: [(&str, &str); 2] = [
     (
         "file\t/w/a.rnc\tinclude 'p' include 'l' include 'http://h/p'\npipe\t/w/p\tx = text\nlink\t/w/l\t/w/p\nword\ta.rnc\nmap\thttp://h\t/w",
-        "Text { file: 0, at: 8 } Target { path: \"p\", fault: Special };Text { file: 0, at: 20 } Target { path: \"l\", fault: Special };Text { file: 0, at: 32 } Mapped { uri: \"http://h/p\", path: \"p\", fault: Special };",
+        "Text { file: 0, at: 8 } File(Special) \"p\";Text { file: 0, at: 20 } File(Special) \"l\";Text { file: 0, at: 32 } File(Special) \"p\" for \"http://h/p\";",
     ),
     (
         "pipe\t/w/p\tstart = text\nword\tp\nword\t./p",
@@ -37,7 +37,7 @@ static LED_OUT: [(&str, &str); 5] = [
     ),
     (
         "file\t/w/r/a.rnc\tinclude '/w' include '/w/p' include 'p' include 'l'\npipe\t/w/p\t\npipe\t/w/r/p\t\nlink\t/w/r/l\t/w/p\nword\tr/a.rnc\nroot\tr",
-        "Text { file: 0, at: 8 } Outside;Text { file: 0, at: 21 } Outside;Text { file: 0, at: 36 } Target { path: \"r/p\", fault: Special };Text { file: 0, at: 48 } Outside;",
+        "Text { file: 0, at: 8 } Outside;Text { file: 0, at: 21 } Outside;Text { file: 0, at: 36 } File(Special) \"r/p\";Text { file: 0, at: 48 } Outside;",
     ),
     (
         "file\t/w/r/a.rnc\tinclude 'http://h/b.rnc'\nlink\t/w/m/b.rnc\t/w/c.rnc\nfile\t/w/c.rnc\t\nword\tr/a.rnc\nmap\thttp://h\t/w/m",
@@ -91,7 +91,7 @@ fn files_that_are_swapped_are_refused(rt: HostRuntime) {
 static MAPPED: [(&str, &str); 4] = [
     (
         "file\t/w/r/a.rnc\tinclude 'http://h/b.rnc' include 'http://h/none.rnc' include 'http://h/d/none.rnc'\nlink\t/w/m/b.rnc\t/w/c.rnc\nfile\t/w/c.rnc\tstart = ^\nlink\t/w/m/d\t/w\nword\tr/a.rnc\nroot\tr\nmap\thttp://h\t/w/m",
-        "Text { file: 0, at: 8 } Outside;Text { file: 0, at: 33 } Mapped { uri: \"http://h/none.rnc\", path: \"m/none.rnc\", fault: Missing };Text { file: 0, at: 61 } Outside;",
+        "Text { file: 0, at: 8 } Outside;Text { file: 0, at: 33 } File(Missing) \"m/none.rnc\" for \"http://h/none.rnc\";Text { file: 0, at: 61 } Outside;",
     ),
     (
         "file\t/w/r/a.rnc\tinclude 'http://h/b.rnc' include 'urn:x:c'\nlink\t/w/l\t/w/m\nfile\t/w/m/b.rnc\t\nfile\t/w/c.rnc\t\nword\tr/a.rnc\nroot\tr\nmap\thttp://h\tl\nmap\turn:x:c\tc.rnc",
@@ -120,7 +120,7 @@ static ROOT_FOLDER: [(&str, &str); 7] = [
     ),
     (
         "file\t/w/r/a.rnc\tinclude '../none.rnc' include 'none.rnc' include '../r/none.rnc'\nword\tr/a.rnc\nroot\t./r",
-        "Text { file: 0, at: 8 } Outside;Text { file: 0, at: 30 } Target { path: \"r/none.rnc\", fault: Missing };Text { file: 0, at: 49 } Target { path: \"r/none.rnc\", fault: Missing };",
+        "Text { file: 0, at: 8 } Outside;Text { file: 0, at: 30 } File(Missing) \"r/none.rnc\";Text { file: 0, at: 49 } File(Missing) \"r/none.rnc\";",
     ),
     (
         "file\t/w/r/a.rnc\tinclude 'l.rnc'\nlink\t/w/r/l.rnc\t/w/b.rnc\nfile\t/w/b.rnc\t\nword\tr/a.rnc\nroot\tr",
@@ -178,7 +178,7 @@ fn references_above_the_topmost_folder_are_refused(rt: HostRuntime) {
 static AGAIN: [(&str, &str); 2] = [
     (
         "file\t/w/a.rnc\tinclude 'c' include 'b.rnc' include 'c' include ''\nfile\t/w/b.rnc\tinclude 'c' include 'd/../c' include ''\nword\ta.rnc",
-        "Text { file: 0, at: 8 } Target { path: \"c\", fault: Missing };Text { file: 0, at: 36 } Target { path: \"c\", fault: Missing };Text { file: 0, at: 48 } Reference(Empty);Text { file: 1, at: 8 } Target { path: \"c\", fault: Missing };Text { file: 1, at: 20 } Target { path: \"c\", fault: Missing };Text { file: 1, at: 37 } Reference(Empty);",
+        "Text { file: 0, at: 8 } File(Missing) \"c\";Text { file: 0, at: 36 } File(Missing) \"c\";Text { file: 0, at: 48 } Reference(Empty);Text { file: 1, at: 8 } File(Missing) \"c\";Text { file: 1, at: 20 } File(Missing) \"c\";Text { file: 1, at: 37 } Reference(Empty);",
     ),
     (
         "file\t/w/r/a.rnc\tinclude '../b' include '../b'\nfile\t/w/b\t\nword\tr/a.rnc\nroot\tr",

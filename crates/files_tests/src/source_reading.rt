@@ -77,7 +77,7 @@ static STANDARD_INPUT: [(&str, &str); 6] = [
     ),
     (
         "file\t-\tx = text\nfile\t/w/x/b.rnc\tinclude 'new.rnc'\nword\tx/b.rnc\nword\t-\ninput\tx/../x/new.rnc\nroot\t/w",
-        "Text { file: 0, at: 8 } Target { path: \"x/new.rnc\", fault: Missing };",
+        "Text { file: 0, at: 8 } File(Missing) \"x/new.rnc\";",
     ),
     (
         "file\t-\t\nfile\t/w/a.rnc\t\nword\ta.rnc\nword\t-\ninput\t./a.rnc",

@@ -31,7 +31,7 @@ static FAULTS: [(&str, &str); 3] = [
     ),
     (
         "file\t/w/a.rnc\t<grammar xmlns='http://relaxng.org/ns/structure/1.0'><include href='c.rnc'/></grammar>\nword\ta.rnc",
-        "Text { file: 0, at: 8 } Target { path: \"c.rnc\", fault: Missing };",
+        "Text { file: 0, at: 8 } File(Missing) \"c.rnc\";",
     ),
 ];
 

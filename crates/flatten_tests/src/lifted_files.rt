@@ -1,7 +1,7 @@
 // Files of a row, and the modules that they become. A file follows a line `@NAME`; the first one is the root.
 use crate::outlines::outline_of;
 use rn_lift::{Lifted, lift};
-use rn_outline::{Outline, PartKind};
+use rn_outline::{FilePartKind, Outline};
 use rn_scopes::Lifting;
 use std::alloc::{AllocError, Global};
 use std::process::Abort;
@@ -34,7 +34,9 @@ fn file_number(row: &str, name: &str) -> Option<usize> {
 fn targets_of(rt: &(impl Abort + AllocGlobal), row: &str, outline: &Outline) -> Vec<usize> {
     let mut targets = Vec::new(rt.alloc());
     for part in &outline.parts {
-        if let PartKind::External { literal, .. } | PartKind::Include { literal, .. } = &part.kind {
+        if let FilePartKind::External { literal, .. }
+        | FilePartKind::Include { literal, .. } = &part.kind
+        {
             let target = file_number(row, literal.as_str()).expect(rt, "no file of the name");
             targets.push(target).expect(rt, "no memory");
         }

@@ -1,5 +1,5 @@
 // Outlines of texts, and the faults of texts that have none.
-use rn_outline::{Outline, OutlineFault, Part, PartKind, Span, read_outline};
+use rn_outline::{FilePart, FilePartKind, Outline, OutlineFault, Span, read_outline};
 use rn_text::tokens;
 use std::alloc::{AllocError, Global};
 use std::process::Abort;
@@ -10,15 +10,15 @@ fn cut(text: &str, span: Span) -> &str {
 }
 
 // The word for the kind of a part.
-fn kind_word(kind: &PartKind) -> &'static str {
+fn kind_word(kind: &FilePartKind) -> &'static str {
     match kind {
-        PartKind::Define { .. } => "define",
-        PartKind::Start { .. } => "start",
-        PartKind::Reference { .. } => "ref",
-        PartKind::Parent { .. } => "parent",
-        PartKind::External { .. } => "external",
-        PartKind::Include { .. } => "include",
-        PartKind::Grammar { .. } => "grammar",
+        FilePartKind::Define { .. } => "define",
+        FilePartKind::Start { .. } => "start",
+        FilePartKind::Reference { .. } => "ref",
+        FilePartKind::Parent { .. } => "parent",
+        FilePartKind::External { .. } => "external",
+        FilePartKind::Include { .. } => "include",
+        FilePartKind::Grammar { .. } => "grammar",
     }
 }
 
@@ -28,16 +28,16 @@ fn angled(alloc: Global, text: &str) -> Result<String, AllocError> {
 }
 
 // What is said of a part besides its kind and its text.
-fn kind_words(alloc: Global, text: &str, kind: &PartKind) -> Result<String, AllocError> {
+fn kind_words(alloc: Global, text: &str, kind: &FilePartKind) -> Result<String, AllocError> {
     match kind {
-        PartKind::Define {
+        FilePartKind::Define {
             name,
             body,
             within,
             only_data,
             ..
         }
-        | PartKind::Start {
+        | FilePartKind::Start {
             word: name,
             body,
             within,
@@ -47,13 +47,16 @@ fn kind_words(alloc: Global, text: &str, kind: &PartKind) -> Result<String, Allo
             let (name, body) = (cut(text, *name), cut(text, *body));
             format!(in alloc; "<{name}><{body}>{within:?}{only_data}")
         }
-        PartKind::Reference { name } | PartKind::Parent { name } => angled(alloc, cut(text, *name)),
-        PartKind::External {
+        FilePartKind::Reference { name } | FilePartKind::Parent { name } => angled(
+            alloc,
+            cut(text, *name),
+        ),
+        FilePartKind::External {
             literal,
             inherit,
             ..
         }
-        | PartKind::Include {
+        | FilePartKind::Include {
             literal,
             inherit,
             ..
@@ -61,7 +64,7 @@ fn kind_words(alloc: Global, text: &str, kind: &PartKind) -> Result<String, Allo
             let inherit = inherit.map_or("", |prefix| cut(text, prefix));
             format!(in alloc; "<{literal}>{inherit}")
         }
-        PartKind::Grammar { number, inside } => {
+        FilePartKind::Grammar { number, inside } => {
             let inside = cut(text, *inside);
             format!(in alloc; "{number}<{inside}>")
         }
@@ -69,7 +72,7 @@ fn kind_words(alloc: Global, text: &str, kind: &PartKind) -> Result<String, Allo
 }
 
 // A part in words: the number of its grammar, `-` in an except, its kind, its text, and what it is made of.
-fn part_words(alloc: Global, text: &str, part: &Part) -> Result<String, AllocError> {
+fn part_words(alloc: Global, text: &str, part: &FilePart) -> Result<String, AllocError> {
     let grammar = part.grammar;
     let in_except = if part.in_except { "-" } else { "" };
     let kind = kind_word(&part.kind);

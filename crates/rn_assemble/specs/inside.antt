@@ -9,7 +9,6 @@ pub mod ContextBindings
 pub mod Covered
 pub mod Expanded
 pub mod GatheredUris
-pub mod Held
 pub mod Included
 pub mod Inclusions
 pub mod Instances

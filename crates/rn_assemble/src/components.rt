@@ -16,7 +16,6 @@ use crate::bodies::{Bodies, Body};
 use crate::contents::Contents;
 use crate::context::Context;
 use crate::number_runs::Runs;
-use crate::numbers::Numbers;
 use std::alloc::{AllocError, Global};
 use std::rc::RcStr;
 
@@ -63,7 +62,7 @@ pub(crate) struct Components<'c, 't, 's> {
     /// The body of each component, also of those that an include has overridden.
     list: Runs,
     /// Of each key, the places of its components, without the overridden ones.
-    places: Vec<Numbers>,
+    places: Vec<Runs>,
     /// The least override of what isn't there.
     pub lack: Option<Lack>,
 }
@@ -78,7 +77,7 @@ impl<'c, 't, 's> Components<'c, 't, 's> {
     {
         let mut places = Vec::with_capacity(alloc, keys)?;
         for _ in 0..keys {
-            places.push(Numbers::new(alloc))?;
+            places.push(Runs::new(alloc))?;
         }
         Ok(Components {
             contexts: Vec::new(alloc),
@@ -302,7 +301,7 @@ impl<'c, 't, 's> Components<'c, 't, 's> {
 }
 
 /// Takes out the places from a place on, at the end of a list that rises.
-fn pop_since(places: &mut Numbers, before: usize)
+fn pop_since(places: &mut Runs, before: usize)
     ensures { (xs ys : List ℕ) → places.old ≡ xs ++ ys → AllByRecursion (λ x. x < before) xs
         → AllByRecursion (λ y. before ≤ y) ys → places.new ≡ xs }
 {

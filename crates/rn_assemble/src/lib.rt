@@ -22,8 +22,6 @@ mod methods;
 mod named_modules;
 mod nodes;
 mod number_runs;
-mod numbers;
-mod one_run;
 mod overriding;
 mod references;
 pub mod refusal;

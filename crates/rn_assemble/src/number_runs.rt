@@ -2,7 +2,6 @@
 ghost use Rattle.std.specs.Prelude.{◌≡◌, ◌+◌, ◌-◌, ◌<◌, ◌++◌, ◌∷◌, ◌↔◌, [], IsTrue, IfErr, IfOk, IfSome, length, slice_get, take};
 ghost use Rattle.rn_assemble.specs.inside.NumberRuns.{AreRuns, ContinuesWith, HasIndex, HaveIndex, LastBeginsAt, number_at};
 
-use crate::one_run::OneRun;
 use std::alloc::{AllocError, Global};
 use std::marker::Model;
 
@@ -42,19 +41,6 @@ impl Runs {
             runs: Vec::new(alloc),
             len: 0,
         }
-    }
-
-    /// The numbers of the run. There is room for one more.
-    pub fn of_run(alloc: Global, run: &OneRun) -> Result<Runs, AllocError>
-        ensures { IfOk result (λ runs. runs ≡ run.now) }
-    {
-        let (start, len) = run.start_and_len();
-        if len == 0 {
-            return Ok(Runs::new(alloc));
-        }
-        let mut runs = Vec::with_capacity(alloc, 2)?;
-        runs.push(Run { first: 0, start })?;
-        Ok(Runs { runs, len })
     }
 
     /// How many numbers there are.

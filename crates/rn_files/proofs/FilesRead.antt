@@ -12,7 +12,7 @@ use Rattle.rn_files.specs.inside.Following.{IsFollowed, IsFront, IsRootOf}
 use Rattle.rn_files.specs.declared.root_folder.RootFolder.{RootFolder}
 use Rattle.rn_files.specs.declared.sources.Asked.{Asked}
 use Rattle.rn_files.specs.declared.sources.SourceFile.{SourceFile}
-use Rattle.rn_files.specs.declared.sources.Written.{Written}
+use Rattle.rn_files.specs.declared.sources.XmlSource.{XmlSource}
 use Rattle.rn_xml.specs.Encodings.{may_be_xml}
 use Rattle.rn_files.specs.declared.walk.Followed.{Followed}
 
@@ -32,7 +32,7 @@ all_is_front : (reads : Reads) (uri path text : List ℕ) → reads uri path tex
 all_is_front reads uri path text h = inr (uri, path, text, length text, h, sym (take_all (length text) text (omega arith)))
 
 -- the text that was read is kept
-text_kept : (reads : Reads) (uri path text : List ℕ) (w : Option Written) → IsTextRead reads uri path text w → IsKept reads text w
+text_kept : (reads : Reads) (uri path text : List ℕ) (w : Option XmlSource) → IsTextRead reads uri path text w → IsKept reads text w
 text_kept reads uri path text None h = all_is_front reads uri path text h
 text_kept reads uri path text (Some w) (bytes, h, xml) = (uri, path, bytes, h, xml)
 
@@ -40,23 +40,23 @@ front_weaker : (reads others : Reads) → ((u p b : List ℕ) → reads u p b �
 front_weaker reads others weaker text (inl none) = inl none
 front_weaker reads others weaker text (inr (uri, path, bytes, n, read, cut)) = inr (uri, path, bytes, n, weaker uri path bytes read, cut)
 
-kept_weaker : (reads others : Reads) → ((u p b : List ℕ) → reads u p b → others u p b) → (text : List ℕ) (w : Option Written) → IsKept reads text w → IsKept others text w
+kept_weaker : (reads others : Reads) → ((u p b : List ℕ) → reads u p b → others u p b) → (text : List ℕ) (w : Option XmlSource) → IsKept reads text w → IsKept others text w
 kept_weaker reads others weaker text None h = front_weaker reads others weaker text h
 kept_weaker reads others weaker text (Some w) (uri, path, bytes, read, xml) = (uri, path, bytes, weaker uri path bytes read, xml)
 
-text_weaker : (reads others : Reads) → ((u p b : List ℕ) → reads u p b → others u p b) → (uri path text : List ℕ) (w : Option Written)
+text_weaker : (reads others : Reads) → ((u p b : List ℕ) → reads u p b → others u p b) → (uri path text : List ℕ) (w : Option XmlSource)
     → IsTextRead reads uri path text w → IsTextRead others uri path text w
 text_weaker reads others weaker uri path text None h = weaker uri path text h
 text_weaker reads others weaker uri path text (Some w) (bytes, h, xml) = (bytes, weaker uri path bytes h, xml)
 
 -- the text of a file without fault
-pub text_read : (reads : Reads) (uri path bytes text : List ℕ) (w : Option Written) → reads uri path bytes → IfNone w (text ≡ bytes)
+pub text_read : (reads : Reads) (uri path bytes text : List ℕ) (w : Option XmlSource) → reads uri path bytes → IfNone w (text ≡ bytes)
     → OnSome w (may_be_xml bytes ≡ true) → IsTextRead reads uri path text w
 text_read reads uri path bytes text None read same xml = let P : List ℕ → Type 0 = λ t. reads uri path t in subst P (sym same) read
 text_read reads uri path bytes text (Some w) read same xml = (bytes, read, xml)
 
 -- what is kept of a file at fault
-kept_front : (reads : Reads) (uri path bytes text : List ℕ) (w : Option Written) → reads uri path bytes → IfNone w (IsFront bytes text)
+kept_front : (reads : Reads) (uri path bytes text : List ℕ) (w : Option XmlSource) → reads uri path bytes → IfNone w (IsFront bytes text)
     → OnSome w (may_be_xml bytes ≡ true) → IsKept reads text w
 kept_front reads uri path bytes text None read (n, cut) xml = inr (uri, path, bytes, n, read, cut)
 kept_front reads uri path bytes text (Some w) read front xml = (uri, path, bytes, read, xml)
@@ -67,19 +67,19 @@ faulty_followed reads f none kept =
     none_matched f.outline (IsKept reads (string_bytes f.text) f.written)
     (IsTextRead reads (string_bytes f.found.uri) (string_bytes f.found.path) (string_bytes f.text) f.written) none kept
 
-nothing_kept : (reads : Reads) (text : List ℕ) (w : Option Written) → w ≡ None → text ≡ [] → IsKept reads text w
-nothing_kept reads text w none empty = let P : Option Written → Type 0 = λ v. IsKept reads text v in subst P (sym none) (inl empty)
+nothing_kept : (reads : Reads) (text : List ℕ) (w : Option XmlSource) → w ≡ None → text ≡ [] → IsKept reads text w
+nothing_kept reads text w none empty = let P : Option XmlSource → Type 0 = λ v. IsKept reads text v in subst P (sym none) (inl empty)
 
 -- a file at fault, of which nothing was read
 pub unread_followed : (reads : Reads) (f : Followed) → is_some f.outline ≡ false → string_bytes f.text ≡ [] → f.written ≡ None → IsFollowed reads f
 unread_followed reads f none empty unwritten = faulty_followed reads f none (nothing_kept reads (string_bytes f.text) f.written unwritten empty)
 
 -- a file at fault, of which a front is kept
-pub front_followed : (reads : Reads) (f : Followed) (uri path bytes text : List ℕ) (w : Option Written) → is_some f.outline ≡ false → string_bytes f.text ≡ text
+pub front_followed : (reads : Reads) (f : Followed) (uri path bytes text : List ℕ) (w : Option XmlSource) → is_some f.outline ≡ false → string_bytes f.text ≡ text
     → f.written ≡ w → IfNone w (IsFront bytes text) → OnSome w (may_be_xml bytes ≡ true) → reads uri path bytes → IsFollowed reads f
 front_followed reads f uri path bytes text w none same written front xml read =
     let P : List ℕ → Type 0 = λ t. IsKept reads t f.written in
-    let Q : Option Written → Type 0 = λ v. IsKept reads text v in
+    let Q : Option XmlSource → Type 0 = λ v. IsKept reads text v in
     faulty_followed reads f none (subst P (sym same) (subst Q (sym written) (kept_front reads uri path bytes text w read front xml)))
 
 -- what is kept of each file

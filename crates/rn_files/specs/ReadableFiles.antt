@@ -8,7 +8,7 @@ use Rattle.rn_files.specs.declared.source_reading.ReadingFault.{ReadingFault}
 use Rattle.rn_files.specs.declared.source_reading.ReadingFault.TheVariants.{Faults, Memory}
 use Rattle.rn_files.specs.declared.sources.Asked.{Asked}
 use Rattle.rn_files.specs.declared.sources.SourceFile.{SourceFile}
-use Rattle.rn_files.specs.declared.sources.Written.{Written}
+use Rattle.rn_files.specs.declared.sources.XmlSource.{XmlSource}
 use Rattle.rn_xml.specs.Encodings.{may_be_xml}
 
 -- where the words of the command and the folders of maps lead: from a path to a real path
@@ -60,7 +60,7 @@ abbrev pub IsReadFor : Leads → Gives → Asked → Reads
 IsReadFor leads gives asked = IsReadWithin leads gives (option_copied asked.root) asked.maps.now
 
 -- what was read for a URI at a path has this text: its bytes; of a file in the XML syntax, what is made of bytes that begin so
-abbrev pub IsTextRead : Reads → (uri path text : List ℕ) → Option Written → Type 0
+abbrev pub IsTextRead : Reads → (uri path text : List ℕ) → Option XmlSource → Type 0
 IsTextRead reads uri path text None = reads uri path text
 IsTextRead reads uri path text (Some w) = (bytes : List ℕ) × reads uri path bytes × (may_be_xml bytes ≡ true)
 
@@ -73,7 +73,7 @@ abbrev pub IsFrontOfRead : Reads → List ℕ → Type 0
 IsFrontOfRead reads text = (text ≡ []) ⊎ ((uri path bytes : List ℕ) × (n : ℕ) × reads uri path bytes × (text ≡ take n bytes))
 
 -- what is kept of a file: such a text; of a file in the XML syntax, what is made of bytes that were read
-abbrev pub IsKept : Reads → List ℕ → Option Written → Type 0
+abbrev pub IsKept : Reads → List ℕ → Option XmlSource → Type 0
 IsKept reads text None = IsFrontOfRead reads text
 IsKept reads text (Some w) = (uri path bytes : List ℕ) × reads uri path bytes × (may_be_xml bytes ≡ true)
 

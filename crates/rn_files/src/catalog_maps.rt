@@ -151,7 +151,7 @@ fn base_at<'b>(uri: &'b str, bases: &'b [String], number: Option<usize>) -> &'b 
     }
 }
 
-/// The URI that a reference stands for; the reference itself where it stands for none.
+/// The target URI of a reference; the reference itself where it has none.
 fn resolved(alloc: Global, base: &str, reference: &str) -> Result<String, AllocError> {
     match resolve(alloc, base, reference) {
         Ok(uri) => Ok(uri),

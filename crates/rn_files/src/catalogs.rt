@@ -1,6 +1,5 @@
 // Catalogs as they are read, one after the other: their entries as maps.
 
-use crate::catalog_faults::{CatalogRefusal, CatalogRefusalKind, CatalogsFault};
 use crate::catalog_maps::{CatalogMaps, absolute_bases, entry_uri};
 use crate::file_texts::MAX_TEXT;
 use crate::files::{FileFault, Files, Kinds};
@@ -8,6 +7,9 @@ use crate::following::word_uri;
 use crate::locations::locate;
 use crate::maps::Map;
 use crate::shown_paths::shown_path;
+use crate::source_faults::{FaultPlace, LinkFault, SourceFault, SourceFaultKind, Tried};
+use crate::source_reading::{Reading, ReadingFault};
+use crate::sources::{Attempt, XmlSource};
 use crate::walk::MAX_SOURCES;
 use rn_catalog::{Catalog, CatalogFault, CatalogFaultKind, EntryKind, read_catalog};
 use rn_xml::{Undecoded, decode};
@@ -49,55 +51,80 @@ struct CatalogWalk {
     maps: CatalogMaps,
 }
 
-/// A refusal that is told at the place where a catalog is named.
+/// A fault of what names a catalog: at its place in another one, or of a word.
 fn named_fault(
     alloc: Global,
     walk: &CatalogWalk,
     named: &NamedCatalog,
-    fault: CatalogRefusalKind,
-) -> CatalogsFault {
-    let told = match named.by {
-        Some((number, at)) => match walk.read.get(number) {
-            Some(catalog) => refusal_in(alloc, catalog, at, fault),
-            None => return CatalogsFault::Memory,
-        },
-        None => CatalogRefusal::unread(alloc, named.shown.as_str(), fault),
-    };
-    match told {
-        Ok(refusal) => CatalogsFault::Refused(refusal),
-        Err(_) => CatalogsFault::Memory,
+    kind: SourceFaultKind,
+) -> Result<ReadingFault, AllocError> {
+    if let Some((number, at)) = named.by {
+        if let Some(catalog) = walk.read.get(number) {
+            return fault_in(alloc, catalog, at, kind);
+        }
     }
+    let place = FaultPlace::Catalogs;
+    Ok(ReadingFault::Faults(Reading {
+        files: Vec::new(alloc),
+        faults: vec![in alloc; SourceFault { place, kind }]?,
+    }))
 }
 
-/// A refusal at a byte of a catalog that was read.
-fn refusal_in(
+/// A fault at a byte of a catalog that was read.
+fn fault_in(
     alloc: Global,
     catalog: &ReadCatalog,
     at: usize,
-    kind: CatalogRefusalKind,
-) -> Result<CatalogRefusal, AllocError> {
-    Ok(CatalogRefusal {
-        shown: String::from_str(alloc, catalog.shown.as_str())?,
-        text: String::from_str(alloc, catalog.text.as_str())?,
-        at: Some(at),
+    kind: SourceFaultKind,
+) -> Result<ReadingFault, AllocError> {
+    faulty_catalog(
+        alloc,
+        catalog.shown.as_str(),
+        catalog.text.clone()?,
+        at,
         kind,
-    })
+    )
 }
 
-/// The refusal of a file.
+/// A catalog that is at fault at a byte of its text.
+fn faulty_catalog(
+    alloc: Global,
+    shown: &str,
+    text: String,
+    at: usize,
+    kind: SourceFaultKind,
+) -> Result<ReadingFault, AllocError> {
+    let catalog = Attempt {
+        name: String::from_str(alloc, shown)?,
+        shown: String::from_str(alloc, shown)?,
+        text: String::new(alloc),
+        written: Some(XmlSource {
+            text,
+            origins: None,
+        }),
+    };
+    let place = FaultPlace::Text { file: 0, at };
+    Ok(ReadingFault::Faults(Reading {
+        files: vec![in alloc; catalog]?,
+        faults: vec![in alloc; SourceFault { place, kind }]?,
+    }))
+}
+
+/// The fault of a catalog that can't be read.
 fn file_fault(
     alloc: Global,
     walk: &CatalogWalk,
     named: &NamedCatalog,
     fault: FileFault,
-) -> CatalogsFault {
+) -> Result<ReadingFault, AllocError> {
     if fault == FileFault::Memory {
-        return CatalogsFault::Memory;
+        return Err(AllocError);
     }
-    match String::from_str(alloc, named.shown.as_str()) {
-        Ok(path) => { named_fault(alloc, walk, named, CatalogRefusalKind::File { path, fault }) }
-        Err(_) => CatalogsFault::Memory,
-    }
+    let kind = SourceFaultKind::Link {
+        fault: LinkFault::File(fault),
+        tried: Tried::at(named.shown.clone()?),
+    };
+    named_fault(alloc, walk, named, kind)
 }
 
 /// Whether a real path is that of a catalog which led to this one, by further catalogs.
@@ -120,36 +147,28 @@ fn text_of_catalog(
     alloc: Global,
     named: &NamedCatalog,
     bytes: &[u8],
-) -> Result<String, CatalogsFault> {
+) -> Result<String, ReadingFault> {
     match decode(alloc, bytes) {
         Ok(text) => Ok(text),
         Err(Undecoded { text, fault }) => {
-            let CatalogFault { at, kind } = CatalogFault::from(fault);
-            Err(text_fault(alloc, named.shown.as_str(), text, at, kind))
+            Err(text_fault(alloc, named, text, CatalogFault::from(fault))?)
         }
     }
 }
 
-/// The refusal of a text.
+/// The fault of a text.
 fn text_fault(
     alloc: Global,
-    shown: &str,
+    named: &NamedCatalog,
     text: String,
-    at: usize,
-    kind: CatalogFaultKind,
-) -> CatalogsFault {
+    fault: CatalogFault,
+) -> Result<ReadingFault, AllocError> {
+    let CatalogFault { at, kind } = fault;
     if kind == CatalogFaultKind::Memory {
-        return CatalogsFault::Memory;
+        return Err(AllocError);
     }
-    match String::from_str(alloc, shown) {
-        Ok(shown) => CatalogsFault::Refused(CatalogRefusal {
-            shown,
-            text,
-            at: Some(at),
-            kind: CatalogRefusalKind::Text(kind),
-        }),
-        Err(_) => CatalogsFault::Memory,
-    }
+    let kind = SourceFaultKind::Catalog(kind);
+    faulty_catalog(alloc, named.shown.as_str(), text, at, kind)
 }
 
 /// The bytes of a catalog at a real path.
@@ -168,30 +187,28 @@ fn read_named<F: Files>(
     current: &str,
     walk: &mut CatalogWalk,
     named: NamedCatalog,
-) -> Result<(), CatalogsFault> {
+) -> Result<(), ReadingFault> {
     let real = match files.real_path(alloc, named.path.as_str(), Kinds::Regular) {
         Ok(real) => real,
-        Err(fault) => return Err(file_fault(alloc, walk, &named, fault)),
+        Err(fault) => return Err(file_fault(alloc, walk, &named, fault)?),
     };
     if is_around(walk, named.by, real.as_str()) {
-        return Err(named_fault(alloc, walk, &named, CatalogRefusalKind::Loop));
+        return Err(named_fault(alloc, walk, &named, SourceFaultKind::CatalogLoop)?);
     }
     if walk.numbers.get(real.as_str()).is_some() {
         return Ok(());
     }
     if walk.read.len() >= MAX_SOURCES {
-        return Err(named_fault(alloc, walk, &named, CatalogRefusalKind::Count));
+        return Err(named_fault(alloc, walk, &named, SourceFaultKind::ManyCatalogs)?);
     }
     let bytes = match bytes_of(alloc, files, real.as_str()) {
         Ok(bytes) => bytes,
-        Err(fault) => return Err(file_fault(alloc, walk, &named, fault)),
+        Err(fault) => return Err(file_fault(alloc, walk, &named, fault)?),
     };
     let text = text_of_catalog(alloc, &named, bytes.as_slice())?;
     match read_catalog(alloc, text.as_str()) {
         Ok(catalog) => take_catalog(alloc, current, walk, named, real, text, &catalog),
-        Err(CatalogFault { at, kind }) => {
-            Err(text_fault(alloc, named.shown.as_str(), text, at, kind))
-        }
+        Err(fault) => Err(text_fault(alloc, &named, text, fault)?),
     }
 }
 
@@ -204,7 +221,7 @@ fn take_catalog(
     real: String,
     text: String,
     catalog: &Catalog,
-) -> Result<(), CatalogsFault> {
+) -> Result<(), ReadingFault> {
     let NamedCatalog { shown, uri, by, .. } = named;
     let number = walk.read.len();
     walk.numbers.insert(real.clone()?, number)?;
@@ -235,7 +252,7 @@ fn next_catalog(
     number: usize,
     at: usize,
     uri: String,
-) -> Result<NamedCatalog, CatalogsFault> {
+) -> Result<NamedCatalog, ReadingFault> {
     match locate(alloc, &[], uri.as_str()) {
         Ok(place) => Ok(NamedCatalog {
             shown: match walk.read.get(number) {
@@ -250,10 +267,9 @@ fn next_catalog(
         }),
         Err(_) => match walk.read.get(number) {
             Some(catalog) => {
-                let kind = CatalogRefusalKind::Elsewhere(uri);
-                Err(CatalogsFault::Refused(refusal_in(alloc, catalog, at, kind)?))
+                Err(fault_in(alloc, catalog, at, SourceFaultKind::FarCatalog(uri))?)
             }
-            None => Err(CatalogsFault::Memory),
+            None => Err(ReadingFault::Memory),
         },
     }
 }
@@ -264,7 +280,7 @@ fn read_all<F: Files>(
     files: &F,
     current: &str,
     walk: &mut CatalogWalk,
-) -> Result<(), CatalogsFault> {
+) -> Result<(), ReadingFault> {
     for _ in 0..u64::MAX {
         let Some(named) = walk.named.pop() else {
             break;
@@ -286,10 +302,10 @@ pub fn read_catalogs<F: Files>(
     alloc: Global,
     files: &F,
     words: &[String],
-) -> Result<Vec<Vec<Map>>, CatalogsFault> {
+) -> Result<Vec<Vec<Map>>, ReadingFault> {
     let current = match files.real_path(alloc, ".", Kinds::Any) {
         Ok(current) => current,
-        Err(FileFault::Memory) => return Err(CatalogsFault::Memory),
+        Err(FileFault::Memory) => return Err(ReadingFault::Memory),
         Err(_) => String::from_str(alloc, "/")?,
     };
     let mut walk = CatalogWalk {

@@ -2,7 +2,7 @@
 
 use crate::module_names::module_name;
 use crate::root_folder::{RootFolder, common_folder};
-use crate::source_faults::{SourceFault, SourceFaultKind};
+use crate::source_faults::{LinkFault, SourceFault};
 use crate::walk::{Entry, FoundBy, Walk};
 use rn_modset::MAX_NAME;
 use std::alloc::{AllocError, Global};
@@ -29,12 +29,10 @@ fn name_of(
     let place = entry.place;
     let name = module_name(alloc, unescaped_name(entry, root))?;
     if name.len() > MAX_NAME {
-        let kind = SourceFaultKind::Name;
-        faults.push(SourceFault { place, kind })?;
+        faults.push(SourceFault::untried(alloc, place, LinkFault::Name))?;
     }
     if !used.insert(name.clone()?)? {
-        let kind = SourceFaultKind::Twice;
-        faults.push(SourceFault { place, kind })?;
+        faults.push(SourceFault::untried(alloc, place, LinkFault::Twice))?;
     }
     Ok(name)
 }

@@ -5,7 +5,7 @@ ghost use Rattle.rn_files.specs.inside.Encodings.{begins_utf16};
 ghost use Rattle.rn_files.specs.inside.Following.{IsFront};
 
 use crate::source_faults::SourceFaultKind;
-use crate::sources::Written;
+use crate::sources::XmlSource;
 use rn_outline::{Outline, OutlineFault, read_outline};
 use rn_text::{TextFault, tokens};
 use rn_translate::{RngFault, RngFaultKind, Translated, compact_text};
@@ -23,7 +23,7 @@ pub struct FileText {
     /// The outline of the text, or what is wrong with the text.
     pub outline: Result<Outline, FileTextFault>,
     /// What is written in the file, if it is in the XML syntax.
-    pub written: Option<Written>,
+    pub written: Option<XmlSource>,
 }
 
 /// What is wrong with a text.
@@ -146,9 +146,9 @@ fn faulty_document(alloc: Global, source: String, fault: FileTextFault) -> FileT
     FileText {
         text: String::new(alloc),
         outline: Err(fault),
-        written: Some(Written {
+        written: Some(XmlSource {
             text: source,
-            places: None,
+            origins: None,
         }),
     }
 }
@@ -164,12 +164,12 @@ fn document_text(alloc: Global, bytes: &[u8]) -> Result<FileText, AllocError>
         }
     };
     match translated(alloc, source.as_str())? {
-        Ok(Translated { text, places }) => Ok(FileText {
+        Ok(Translated { text, origins }) => Ok(FileText {
             outline: outline_of(alloc, text.as_str())?,
             text,
-            written: Some(Written {
+            written: Some(XmlSource {
                 text: source,
-                places: Some(places),
+                origins: Some(origins),
             }),
         }),
         Err(fault) => Ok(faulty_document(alloc, source, fault)),

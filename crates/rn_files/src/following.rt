@@ -8,26 +8,26 @@ use crate::bounds::{Ways, may_be_read};
 use crate::escapes::file_uri;
 use crate::file_texts::{FileText, MAX_TEXT, text_of};
 use crate::files::{FileFault, Files, Kinds, STANDARD_INPUT};
-use crate::links::{LinkFault, Tried, found_at, tried_place};
+use crate::links::{found_at, tried_place};
 use crate::locations::locate;
 use crate::meant_uris::meant_uri;
-use crate::source_faults::FaultPlace;
-use crate::sources::Written;
+use crate::source_faults::{FaultPlace, LinkFault, Tried};
+use crate::sources::XmlSource;
 use crate::walk::{Followed, FoundBy, FoundFile, MAX_SOURCES, Walk};
-use rn_outline::{Outline, Part, PartKind};
+use rn_outline::{FilePart, FilePartKind, Outline};
 use std::alloc::{AllocError, Global};
 
 /// The literal of a part that names another file, and the byte where it begins.
-pub fn link_of(part: &Part) -> Option<(&str, usize)>
+pub fn link_of(part: &FilePart) -> Option<(&str, usize)>
     ensures { is_some result ≡ is_link part.now }
 {
     match &part.kind {
-        PartKind::External {
+        FilePartKind::External {
             literal,
             literal_at,
             ..
         } => Some((literal.as_str(), literal_at.from)),
-        PartKind::Include {
+        FilePartKind::Include {
             literal,
             literal_at,
             ..
@@ -121,7 +121,8 @@ fn enter_word<F: Files>(
     walk.enter(input, place)
 }
 
-/// Enters the files that are asked for, and answers their numbers, each once.
+/// Enters the files that are asked for, and answers their numbers, each once. After one too many no further one is
+/// looked for.
 pub fn enter_words<F: Files>(
     alloc: Global,
     files: &F,
@@ -131,6 +132,9 @@ pub fn enter_words<F: Files>(
 ) -> Result<Vec<usize>, AllocError> {
     let mut roots: Vec<usize> = Vec::new(alloc);
     for (number, word) in words.iter().enumerate() {
+        if walk.is_full {
+            break;
+        }
         let place = FaultPlace::Word(number);
         let entered = enter_word(alloc, files, ways, walk, word.as_str(), place);
         if let Some(root) = walk.note_link(place, Tried::nothing(alloc), entered)? {
@@ -179,7 +183,7 @@ fn enter_link<F: Files>(
     led
 }
 
-/// What was tried for a reference that led to no file; nothing where it led to one, or stands for no URI.
+/// What was tried for a reference that led to no file; nothing where it led to one, or has no target URI.
 fn tried_by(
     alloc: Global,
     ways: &Ways<'_>,
@@ -266,7 +270,12 @@ fn follow_text<F: Files>(
 }
 
 /// A file that is at fault, with what was read of it.
-fn faulty_file(alloc: Global, found: FoundFile, text: String, written: Option<Written>) -> Followed
+fn faulty_file(
+    alloc: Global,
+    found: FoundFile,
+    text: String,
+    written: Option<XmlSource>,
+) -> Followed
     ensures outline { IsNone result.outline }
     ensures text { string_bytes result.text ≡ string_bytes text }
     ensures written { result.written ≡ written }

@@ -6,10 +6,10 @@
 //! it. [`position`] and [`line_of`] say where a byte of a text stands.
 //!
 //! Work and memory grow with the bytes that are read and the references in them; nothing recurses.
+//! An `AllocError`, and `Memory` of a fault, says that memory ran out. It is the only error unless said otherwise.
 #![tactic(auto)]
 
 mod bounds;
-mod catalog_faults;
 mod catalog_maps;
 mod catalogs;
 mod escapes;
@@ -37,7 +37,6 @@ mod uri_references;
 mod uris;
 mod walk;
 
-pub use catalog_faults::{CatalogRefusal, CatalogRefusalKind, CatalogsFault};
 pub use catalogs::read_catalogs;
 pub use file_texts::MAX_TEXT;
 pub use files::{FileFault, Files, Kinds, OpenedFile, STANDARD_INPUT};
@@ -48,10 +47,10 @@ pub use module_names::module_name;
 pub use paths::remove_dot_segments;
 pub use positions::{line_of, position};
 pub use rn_catalog::CatalogFaultKind;
-pub use source_faults::{FaultPlace, SourceFault, SourceFaultKind};
+pub use source_faults::{FaultPlace, LinkFault, SourceFault, SourceFaultKind, Tried};
 pub use source_reading::{
     LinkedFiles, Reading, ReadingFault, read_files, read_sources, sources_of,
 };
-pub use sources::{Asked, Attempt, SourceFile, Sources, Written};
+pub use sources::{Asked, Attempt, SourceFile, Sources, XmlSource};
 pub use uri_references::{ReferenceFault, resolve};
 pub use walk::MAX_SOURCES;

@@ -9,115 +9,11 @@ use crate::locations::{Location, led_elsewhere, locate};
 use crate::maps::Map;
 use crate::module_names::module_name;
 use crate::shown_paths::shown_path;
-use crate::source_faults::SourceFaultKind;
+use crate::source_faults::{LinkFault, Tried};
 use crate::uri_references::ReferenceFault;
 use crate::walk::{FoundBy, FoundFile};
 use rn_modset::MAX_NAME;
 use std::alloc::{AllocError, Global};
-
-/// Why a word or a reference leads to no file.
-#[derive(Clone, Copy, Debug, PartialEq, Eq)]
-pub enum LinkFault {
-    /// The reference names no file.
-    Reference(ReferenceFault),
-    /// The file can't be read.
-    File(FileFault),
-    /// The file may not be read, since it lies outside of the root folder.
-    Outside,
-    /// The name of the file's module would be too long.
-    Name,
-    /// The file was named before by another word.
-    Twice,
-    /// The file is one too many.
-    Count,
-    /// A request for memory was refused.
-    Memory,
-}
-
-impl LinkFault {
-    /// The fault of a reference as it is kept, with what was tried.
-    pub fn kind_at_reference(self, tried: Tried) -> SourceFaultKind {
-        let Tried { uri, place } = tried;
-        match (self, uri) {
-            (LinkFault::File(fault), Some(uri)) => SourceFaultKind::Mapped {
-                uri,
-                path: place,
-                fault,
-            },
-            (LinkFault::File(fault), None) => SourceFaultKind::Target { path: place, fault },
-            (LinkFault::Reference(ReferenceFault::Scheme), _) => SourceFaultKind::Unmapped(place),
-            (LinkFault::Reference(ReferenceFault::Elsewhere), Some(uri)) => {
-                SourceFaultKind::Elsewhere { uri, target: place }
-            }
-            (LinkFault::Reference(ReferenceFault::Delegated), Some(uri)) => {
-                SourceFaultKind::Delegated {
-                    uri,
-                    catalog: place,
-                }
-            }
-            (fault, _) => fault.kind(),
-        }
-    }
-
-    /// The fault of a word as it is kept.
-    pub fn kind(self) -> SourceFaultKind {
-        match self {
-            LinkFault::Reference(fault) => SourceFaultKind::Reference(fault),
-            LinkFault::File(fault) => SourceFaultKind::File(fault),
-            LinkFault::Outside => SourceFaultKind::Outside,
-            LinkFault::Name => SourceFaultKind::Name,
-            LinkFault::Twice => SourceFaultKind::Twice,
-            LinkFault::Count => SourceFaultKind::Count,
-            LinkFault::Memory => SourceFaultKind::File(FileFault::Memory),
-        }
-    }
-}
-
-impl From<AllocError> for LinkFault {
-    fn from(_: AllocError) -> Self {
-        LinkFault::Memory
-    }
-}
-
-impl From<FileFault> for LinkFault {
-    fn from(fault: FileFault) -> Self {
-        match fault {
-            FileFault::Memory => LinkFault::Memory,
-            fault => LinkFault::File(fault),
-        }
-    }
-}
-
-impl From<ReferenceFault> for LinkFault {
-    fn from(fault: ReferenceFault) -> Self {
-        match fault {
-            ReferenceFault::Memory => LinkFault::Memory,
-            fault => LinkFault::Reference(fault),
-        }
-    }
-}
-
-/// What was tried for a reference that led to no file.
-#[derive(Drop)]
-pub struct Tried {
-    /// The URI, if a map finds it.
-    pub uri: Option<String>,
-    /// The path where the file was looked for, as it is told to people; or the URI where no path is known, or that to which
-    /// a map leads. Empty where nothing was tried.
-    pub place: String,
-}
-
-impl Tried {
-    /// Nothing was tried.
-    pub fn nothing(alloc: Global) -> Tried {
-        Tried::at(String::new(alloc))
-    }
-
-    /// A place was tried that no map found.
-    pub fn at(place: String) -> Tried {
-        Tried { uri: None, place }
-    }
-}
 
 /// How the file at a real path is told to people, where another file refers to it: as a real path where that one is told
 /// by a path from the topmost folder, else from the current folder.
@@ -134,7 +30,7 @@ fn shown_beside(
     }
 }
 
-/// What was tried for a reference that stands for a URI and led to no file.
+/// What was tried for a reference that has a target URI and led to no file.
 pub fn tried_place(
     alloc: Global,
     ways: &Ways<'_>,

@@ -21,7 +21,7 @@ pub struct Location {
     pub is_mapped: bool,
 }
 
-/// Whether an escape stands for a byte that no file's name holds: 0 or `/`.
+/// Whether an escape is a byte that no file's name holds: 0 or `/`.
 fn has_unnamed(text: &str) -> bool {
     text.contains("%00") || text.contains("%2F") || text.contains("%2f")
 }

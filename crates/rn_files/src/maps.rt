@@ -52,7 +52,7 @@ pub struct Map {
 impl Map {
     ghost use Rattle.rn_files.specs.Maps.{IsFolderOf};
 
-    /// The map of the URIs that begin with the prefix to what lies below the folder. Refused only for want of memory.
+    /// The map of the URIs that begin with the prefix to what lies below the folder.
     pub fn below(alloc: Global, prefix: &str, folder: &str) -> Result<Map, AllocError>
         ensures part { IfOk result (λ m. m.part ≡ UriPart.Front) }
         ensures text { IfOk result (λ m. string_bytes m.text ≡ prefix.now) }

@@ -4,21 +4,21 @@ ghost use Rattle.rn_files.specs.inside.FileUris.{file_uri};
 ghost use Rattle.rn_files.specs.inside.UriReferences.{IsKnown, IsMeant, StandsFor};
 
 use crate::escapes::{escape, file_uri};
-use crate::links::LinkFault;
 use crate::locations::is_file_uri;
 use crate::maps::{Map, found_map};
+use crate::source_faults::LinkFault;
 use crate::uri_references::resolve_below;
 use crate::walk::{FoundBy, FoundFile};
 use std::alloc::Global;
 
-/// The URI that a reference in a file with the URI `base` stands for.
+/// The target URI of a reference in a file with the URI `base`.
 fn target_uri(alloc: Global, base: &str, literal: &str) -> Result<String, LinkFault>
     ensures { IfOk result (λ uri. StandsFor base.now literal.now (string_bytes uri)) }
 {
     Ok(resolve_below(alloc, base, literal)?)
 }
 
-/// The URI that a reference stands for where the base is the path of its file.
+/// The target URI of a reference where the base is the path of its file.
 fn uri_beside(alloc: Global, path: &str, literal: &str) -> Result<String, LinkFault>
     ensures { IfOk result (λ uri. StandsFor (file_uri path.now) literal.now (string_bytes uri)) }
 {
@@ -41,9 +41,9 @@ fn are_empty(maps: &[Vec<Map>]) -> bool {
     maps.iter().all(|group| group.is_empty())
 }
 
-/// The URI that is looked for where a file has a reference: what it stands for. Where no map finds that, it is the
+/// The URI that is looked for where a file has a reference: its target. Where no map finds that, it is the
 /// reference as it is written, if a map finds that. Where none does, and a map found the file at a URI that isn't a
-/// `file` URI, what it stands for beside the file (RFC 3986, section 5.1.3).
+/// `file` URI, its target beside the file (RFC 3986, section 5.1.3).
 pub fn meant_uri(
     alloc: Global,
     maps: &[Vec<Map>],

@@ -31,7 +31,7 @@ pub struct MemoryFiles {
     entries: BTreeMap<String, MemoryEntry>,
 }
 
-/// The fault that stands for a refused request for memory.
+/// The fault of a refused request for memory.
 fn no_memory(_: AllocError) -> FileFault {
     FileFault::Memory
 }
@@ -47,7 +47,7 @@ fn remove_last(path: &mut String)
 }
 
 impl MemoryFiles {
-    /// No files. The current folder is a real path. Refused only for want of memory.
+    /// No files. The current folder is a real path.
     pub fn new(alloc: Global, current: &str) -> Result<MemoryFiles, AllocError> {
         Ok(MemoryFiles {
             current: String::from_str(alloc, current)?,
@@ -55,8 +55,7 @@ impl MemoryFiles {
         })
     }
 
-    /// Puts a file at a real path, in place of what was there. Refused only for want of memory: then what was there
-    /// stays.
+    /// Puts a file at a real path, in place of what was there. After an error what was there stays.
     pub fn add_file(&mut self, alloc: Global, path: &str, bytes: &[u8]) -> Result<(), AllocError> {
         let path = String::from_str(alloc, path)?;
         let bytes = bytes.to_vec(alloc)?;
@@ -73,8 +72,7 @@ impl MemoryFiles {
         Ok(())
     }
 
-    /// Puts a link to a real path at a real path, in place of what was there. Refused only for want of memory: then
-    /// what was there stays.
+    /// Puts a link to a real path at a real path, in place of what was there. After an error what was there stays.
     pub fn add_link(&mut self, alloc: Global, path: &str, target: &str) -> Result<(), AllocError> {
         let path = String::from_str(alloc, path)?;
         let target = String::from_str(alloc, target)?;

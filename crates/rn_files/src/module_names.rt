@@ -13,7 +13,7 @@ fn is_plain(byte: u8) -> bool
 }
 
 /// The name of the module at a path or a URI: each byte that a module's name may not hold, and `%`, becomes `%` and two
-/// hexadecimal digits in upper case. So distinct paths have distinct names. The only error is want of memory.
+/// hexadecimal digits in upper case. So distinct paths have distinct names.
 pub fn module_name(alloc: Global, path: &str) -> Result<String, AllocError>
     ensures { IfOk result (λ name. string_bytes name ≡ name_of path.now) }
 {

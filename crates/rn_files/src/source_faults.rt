@@ -2,9 +2,11 @@
 
 use crate::files::FileFault;
 use crate::uri_references::ReferenceFault;
+use rn_catalog::CatalogFaultKind;
 use rn_outline::Wanted;
 use rn_translate::RngFaultKind;
 use rn_xml::XmlFaultKind;
+use std::alloc::{AllocError, Global};
 
 /// What a fault is about.
 #[derive(Clone, Copy, Debug, PartialEq, Eq)]
@@ -15,6 +17,8 @@ pub enum FaultPlace {
     Root,
     /// The current folder.
     Current,
+    /// The catalogs that are asked for.
+    Catalogs,
     /// This byte of the file with this number among those that were read.
     Text {
         /// The number of the file.
@@ -24,45 +28,81 @@ pub enum FaultPlace {
     },
 }
 
+/// Why a word or a reference leads to no file.
+#[derive(Clone, Copy, Debug, PartialEq, Eq)]
+pub enum LinkFault {
+    /// The reference names no file.
+    Reference(ReferenceFault),
+    /// The file or the folder can't be read.
+    File(FileFault),
+    /// The file may not be read, since it lies outside of the root folder.
+    Outside,
+    /// The name of the file's module is longer than [`rn_modset::MAX_NAME`] bytes.
+    Name,
+    /// The file was named before by another word, or another file has the name of its module.
+    Twice,
+    /// With the file there are more than [`MAX_SOURCES`](crate::MAX_SOURCES).
+    Count,
+    /// A request for memory was refused.
+    Memory,
+}
+
+impl From<AllocError> for LinkFault {
+    fn from(_: AllocError) -> Self {
+        LinkFault::Memory
+    }
+}
+
+impl From<FileFault> for LinkFault {
+    fn from(fault: FileFault) -> Self {
+        match fault {
+            FileFault::Memory => LinkFault::Memory,
+            fault => LinkFault::File(fault),
+        }
+    }
+}
+
+impl From<ReferenceFault> for LinkFault {
+    fn from(fault: ReferenceFault) -> Self {
+        match fault {
+            ReferenceFault::Memory => LinkFault::Memory,
+            fault => LinkFault::Reference(fault),
+        }
+    }
+}
+
+/// What was tried for a reference that led to no file.
+#[derive(Debug, Drop, PartialEq, Eq)]
+pub struct Tried {
+    /// The URI that the reference means, or is, if a map finds it.
+    pub uri: Option<String>,
+    /// The path where the file was looked for, as it is told to people; or the URI where no path is known, or that to which
+    /// a map leads. Empty where nothing was tried.
+    pub place: String,
+}
+
+impl Tried {
+    /// Nothing was tried.
+    pub fn nothing(alloc: Global) -> Tried {
+        Tried::at(String::new(alloc))
+    }
+
+    /// A place was tried that no map found.
+    pub fn at(place: String) -> Tried {
+        Tried { uri: None, place }
+    }
+}
+
 /// What is wrong at the place of a fault.
 #[derive(Debug, Drop, PartialEq, Eq)]
 pub enum SourceFaultKind {
-    /// The file or the folder that is named there can't be read.
-    File(FileFault),
-    /// The file that the reference leads to can't be read.
-    Target {
-        /// Its path, as it is told to people.
-        path: String,
-        /// Why it can't be read.
-        fault: FileFault,
+    /// A word, a folder, a reference or a catalog leads to no file that is read.
+    Link {
+        /// Why it leads to none.
+        fault: LinkFault,
+        /// What was tried for it.
+        tried: Tried,
     },
-    /// The file to which a map leads can't be read.
-    Mapped {
-        /// The URI that the reference stands for, or is.
-        uri: String,
-        /// The path, as it is told to people.
-        path: String,
-        /// Why it can't be read.
-        fault: FileFault,
-    },
-    /// An entry of a catalog leads to what is no file; nothing is fetched.
-    Elsewhere {
-        /// The URI that the reference stands for, or is.
-        uri: String,
-        /// Where it leads.
-        target: String,
-    },
-    /// An entry of a catalog says that another catalog alone is to know the URI; it is not read for that.
-    Delegated {
-        /// The URI that the reference stands for, or is.
-        uri: String,
-        /// The other catalog.
-        catalog: String,
-    },
-    /// The reference names no file.
-    Reference(ReferenceFault),
-    /// The reference stands for this URI, which no map has a prefix of and which is no `file` URI.
-    Unmapped(String),
     /// The text begins with the byte order mark of UTF-16.
     Utf16,
     /// The text is not UTF-8 from the place of the fault on.
@@ -78,14 +118,14 @@ pub enum SourceFaultKind {
     Document(XmlFaultKind),
     /// The document is no schema in the XML syntax, at the place of the fault.
     Schema(RngFaultKind),
-    /// There are more than [`MAX_SOURCES`](crate::MAX_SOURCES) files.
-    Count,
-    /// The file that is named there doesn't lie below the root folder.
-    Outside,
-    /// The name of the module is longer than [`rn_modset::MAX_NAME`] bytes.
-    Name,
-    /// Another file has the name of the module.
-    Twice,
+    /// The text is no catalog.
+    Catalog(CatalogFaultKind),
+    /// The catalog that is named is one that led here, by further catalogs.
+    CatalogLoop,
+    /// The catalog that is named is at this URI, which is no file's.
+    FarCatalog(String),
+    /// With the catalog that is named there are more than [`MAX_SOURCES`](crate::MAX_SOURCES).
+    ManyCatalogs,
     /// The reference closes a loop through these files, in order, of which the first is the one that is referred to
     /// here.
     Loop(Vec<usize>),
@@ -100,4 +140,15 @@ pub struct SourceFault {
     pub place: FaultPlace,
     /// What is wrong there.
     pub kind: SourceFaultKind,
+}
+
+impl SourceFault {
+    /// The fault of a link for which nothing was tried.
+    pub(crate) fn untried(alloc: Global, place: FaultPlace, fault: LinkFault) -> SourceFault {
+        let tried = Tried::nothing(alloc);
+        SourceFault {
+            place,
+            kind: SourceFaultKind::Link { fault, tried },
+        }
+    }
 }

@@ -11,10 +11,10 @@ use crate::following::{enter_words, follow_all, word_uri};
 use crate::locations::locate;
 use crate::root_folder::{RootFolder, real_folder, with_slash};
 use crate::soundness::sources_fault;
-use crate::source_faults::{FaultPlace, SourceFault};
+use crate::source_faults::{FaultPlace, LinkFault, SourceFault, Tried};
 use crate::sources::{Asked, Attempt, SourceFile, Sources};
 use crate::walk::{Followed, FoundFile, Walk};
-use std::alloc::{AllocError, Global};
+use std::alloc::{AllocError, AllocFailed, Global};
 
 /// What was read and what is wrong, where there are no sources.
 #[derive(Debug, Drop)]
@@ -34,10 +34,10 @@ pub struct LinkedFiles {
     pub fault: Option<SourceFault>,
 }
 
-/// Why there are no sources.
+/// Why there are no sources, or no maps of catalogs.
 #[derive(Debug, Drop)]
 pub enum ReadingFault {
-    /// Files or what they refer to are at fault.
+    /// Files, what they refer to, or catalogs are at fault.
     Faults(Reading),
     /// A request for memory was refused.
     Memory,
@@ -54,29 +54,33 @@ impl From<AllocError> for ReadingFault {
     }
 }
 
-/// The root folder that is asked for; where it isn't there, or is none, that is kept.
+impl<T: Drop> From<AllocFailed<T>> for ReadingFault {
+    ghost use Rattle.std.specs.Prelude.{◌≡◌};
+    ghost use Rattle.rn_files.specs.declared.source_reading.ReadingFault.TheVariants.{Memory};
+
+    ghost from_gives = { λ _ fault. fault ≡ Memory };
+
+    fn from(_: AllocFailed<T>) -> Self {
+        ReadingFault::Memory
+    }
+}
+
+/// The root folder that is asked for.
 fn given_root<F: Files>(
     alloc: Global,
     files: &F,
     current: &str,
     named: &str,
-    walk: &mut Walk,
-) -> Result<Option<RootFolder>, AllocError>
-    ensures { IfOk result (λ found. IfSome found (IsRootOf (F.leads files.now) named.now)) }
+) -> Result<RootFolder, LinkFault>
+    ensures { IfOk result (IsRootOf (F.leads files.now) named.now) }
 {
-    let answer = real_folder(alloc, files, named);
-    let Some(real) = walk.note_answer(FaultPlace::Root, answer)? else {
-        return Ok(None);
-    };
+    let real = real_folder(alloc, files, named)?;
     let uri = word_uri(alloc, current, named)?;
-    let spelled = locate(alloc, &[], uri.as_str());
-    let Some(spelled) = walk.note_reference(FaultPlace::Root, spelled)? else {
-        return Ok(None);
-    };
-    Ok(Some(RootFolder {
+    let spelled = locate(alloc, &[], uri.as_str())?;
+    Ok(RootFolder {
         real: with_slash(real)?,
         spelled: with_slash(spelled.path)?,
-    }))
+    })
 }
 
 /// What is kept of a file on a walk that found faults.
@@ -328,13 +332,12 @@ fn current_folder<F: Files>(
     alloc: Global,
     files: &F,
     asked: &Asked<'_>,
-    walk: &mut Walk,
-) -> Result<Option<String>, AllocError> {
+) -> Result<String, LinkFault> {
     match files.real_path(alloc, ".", Kinds::Any) {
         Err(fault) if fault != FileFault::Memory && !needs_current(asked) => {
-            Ok(Some(String::from_str(alloc, "/")?))
+            Ok(String::from_str(alloc, "/")?)
         }
-        answer => walk.note_answer(FaultPlace::Current, answer),
+        answer => Ok(answer?),
     }
 }
 
@@ -349,13 +352,15 @@ fn find_files<F: Files>(
         (IsReadFor (F.leads files.now) (F.gives files.now) asked.now))
         found.files.followed.items) }
 {
-    let Some(current) = current_folder(alloc, files, asked, walk)? else {
+    let current = current_folder(alloc, files, asked);
+    let Some(current) = walk.note_link(FaultPlace::Current, Tried::nothing(alloc), current)? else {
         return Ok(no_files(alloc));
     };
     let current = current.as_str();
     match asked.root {
         Some(named) => {
-            let Some(root) = given_root(alloc, files, current, named, walk)? else {
+            let root = given_root(alloc, files, current, named);
+            let Some(root) = walk.note_link(FaultPlace::Root, Tried::nothing(alloc), root)? else {
                 return Ok(no_files(alloc));
             };
             let files = follow_words(alloc, files, asked, current, Some(&root), walk)?;

@@ -1,10 +1,10 @@
 // The files, root folder and maps that are asked for, and the sources that are answered.
 ghost use Rattle.std.specs.Prelude.{◌≡◌, MatchOption};
-ghost use Rattle.rn_translate.specs.Places.{origin_of};
+ghost use Rattle.rn_translate.specs.Origins.{origin_of};
 
 use crate::maps::Map;
 use rn_outline::Outline;
-use rn_translate::Places;
+use rn_translate::Origins;
 
 /// What is asked for: files, a root folder and maps.
 #[derive(Clone, Copy)]
@@ -22,23 +22,35 @@ pub struct Asked<'a> {
     pub input: Option<&'a str>,
 }
 
+impl Asked<'_> {
+    /// Nothing is asked for.
+    pub fn nothing() -> Asked<'static> {
+        Asked {
+            files: &[],
+            root: None,
+            maps: &[],
+            input: None,
+        }
+    }
+}
+
 /// What is written in a file in the XML syntax.
 #[derive(Debug, Drop, PartialEq, Eq)]
-pub struct Written {
+pub struct XmlSource {
     /// The text of the document, in UTF-8.
     pub text: String,
     /// Where the bytes of the compact text come from, which was made of it; `None` where the document is at fault, and
     /// places are its own.
-    pub places: Option<Places>,
+    pub origins: Option<Origins>,
 }
 
-impl Written {
+impl XmlSource {
     /// The byte of the document's text that a byte of the compact text was made for.
     pub fn origin(&self, at: usize) -> usize
-        ensures { MatchOption self.now.places (result ≡ at)
-            (λ places. result ≡ origin_of places.items.items at) }
+        ensures { MatchOption self.now.origins (result ≡ at)
+            (λ origins. result ≡ origin_of origins.items.items at) }
     {
-        match &self.places {
+        match &self.origins {
             Some(places) => places.origin(at),
             None => at,
         }
@@ -60,7 +72,7 @@ pub struct SourceFile {
     /// The bytes of the file; of one in the XML syntax the text of the compact syntax that was made of it.
     pub text: String,
     /// What is written in the file, if it is in the XML syntax.
-    pub written: Option<Written>,
+    pub written: Option<XmlSource>,
     /// The outline of the text.
     pub outline: Outline,
     /// For each external and include of the outline, in order, the number of the file that is meant.
@@ -87,5 +99,5 @@ pub struct Attempt {
     /// where the document is at fault.
     pub text: String,
     /// What is written in the file, if it is in the XML syntax: its document, as far as it could be decoded.
-    pub written: Option<Written>,
+    pub written: Option<XmlSource>,
 }

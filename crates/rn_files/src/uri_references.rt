@@ -28,17 +28,17 @@ pub enum ReferenceFault {
     /// A `%` begins no escape.
     #[error("a % is not followed by two hexadecimal digits")]
     Escape,
-    /// An escape stands for a byte that no name of a file holds: 0 or `/`.
+    /// An escape is a byte that no name of a file holds: 0 or `/`.
     #[error("an escape stands for a byte that no file name holds")]
     Byte,
     /// The bytes of the escapes are no UTF-8.
     #[error("the escapes are not UTF-8")]
     Encoding,
-    /// The reference stands for a `file` URI that names a host.
+    /// The reference means a `file` URI that names a host.
     #[error("the reference names a host")]
     Host,
     /// The URI has a scheme other than `file`, and no map has a prefix of the URI.
-    #[error("no map says where the URI lies")]
+    #[error("no map or catalog says where the URI lies")]
     Scheme,
     /// The URI has the scheme `file` and no path from `/` on.
     #[error("the path of a file URI begins with /")]
@@ -57,7 +57,7 @@ pub enum ReferenceFault {
     Memory,
 }
 
-/// The fault that stands for a refused request for memory.
+/// The fault of a refused request for memory.
 pub fn no_memory(_: AllocError) -> ReferenceFault
     ensures { result ≡ ReferenceFault.Memory }
 {
@@ -179,7 +179,7 @@ fn fault_of(reference: &str) -> Option<ReferenceFault>
     }
 }
 
-/// The URI that a reference without fault stands for.
+/// The target URI of a reference without fault.
 fn resolved_uri(alloc: Global, base: &str, reference: &str) -> Result<String, AllocError>
     ensures { IfOk result (λ uri. string_bytes uri ≡ resolved_uri base.now reference.now) }
 {
@@ -198,7 +198,7 @@ fn leads_above(alloc: Global, base: &str, reference: &str) -> Result<bool, Alloc
     lead_above(alloc, dotted.as_slice())
 }
 
-/// The URI that a reference stands for in a file that has the URI `base`. What no URI holds is escaped first (XLink,
+/// The target URI of a reference in a file that has the URI `base`. What no URI holds is escaped first (XLink,
 /// section 5.4), as RELAX NG says (RELAX NG 2001, 4.5).
 ///
 /// Refused are a reference that is empty, one with a fragment, one with a query, and one with a `%` that begins no
@@ -215,7 +215,7 @@ pub fn resolve(alloc: Global, base: &str, reference: &str) -> Result<String, Ref
     }
 }
 
-/// The URI that a reference in a file stands for, as `resolve` says. `Above` where a `..` leads above the root of its
+/// The target URI of a reference in a file, as `resolve` says. `Above` where a `..` leads above the root of its
 /// path.
 pub fn resolve_below(alloc: Global, base: &str, reference: &str) -> Result<String, ReferenceFault>
     ensures fault { IfSome (fault_of reference.now) (λ fault. result ≡ Err fault) }

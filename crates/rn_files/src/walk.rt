@@ -2,11 +2,8 @@
 ghost use Rattle.std.specs.Prelude.{◌≡◌, IfOk, IfSome, Ok};
 ghost use Rattle.rn_files.specs.inside.Following.{EntriesGrow};
 
-use crate::files::FileFault;
-use crate::links::{LinkFault, Tried};
-use crate::source_faults::{FaultPlace, SourceFault, SourceFaultKind};
-use crate::sources::Written;
-use crate::uri_references::ReferenceFault;
+use crate::source_faults::{FaultPlace, LinkFault, SourceFault, SourceFaultKind, Tried};
+use crate::sources::XmlSource;
 use rn_outline::Outline;
 use std::alloc::{AllocError, Global};
 use std::collections::BTreeMap;
@@ -57,7 +54,7 @@ pub struct Followed {
     /// The text, or as much of it as is UTF-8.
     pub text: String,
     /// What is written in the file, if it is in the XML syntax.
-    pub written: Option<Written>,
+    pub written: Option<XmlSource>,
     /// What the text is made of, if it has no fault.
     pub outline: Option<Outline>,
     /// The numbers of the files that its links mean, in order.
@@ -81,14 +78,6 @@ pub struct Walk {
     pub faults: Vec<SourceFault>,
 }
 
-/// A fault as it is kept.
-fn link_kind(place: FaultPlace, tried: Tried, fault: LinkFault) -> SourceFaultKind {
-    match place {
-        FaultPlace::Text { .. } => fault.kind_at_reference(tried),
-        _ => fault.kind(),
-    }
-}
-
 impl Walk {
     /// A walk that found no files yet.
     pub fn new(alloc: Global) -> Walk {
@@ -110,45 +99,7 @@ impl Walk {
         Ok(())
     }
 
-    /// What a file answered; a fault is kept, and is then none.
-    pub fn note_answer<T: Drop>(
-        &mut self,
-        place: FaultPlace,
-        answer: Result<T, FileFault>,
-    ) -> Result<Option<T>, AllocError>
-        ensures grows { EntriesGrow self.old self.new }
-        ensures answered { IfOk result (λ noted. IfSome noted (λ value. answer ≡ Ok value)) }
-    {
-        match answer {
-            Ok(value) => Ok(Some(value)),
-            Err(FileFault::Memory) => Err(AllocError),
-            Err(fault) => {
-                self.note(place, SourceFaultKind::File(fault))?;
-                Ok(None)
-            }
-        }
-    }
-
-    /// What a reference stands for; a fault is kept, and is then none.
-    pub fn note_reference<T: Drop>(
-        &mut self,
-        place: FaultPlace,
-        answer: Result<T, ReferenceFault>,
-    ) -> Result<Option<T>, AllocError>
-        ensures grows { EntriesGrow self.old self.new }
-        ensures answered { IfOk result (λ noted. IfSome noted (λ value. answer ≡ Ok value)) }
-    {
-        match answer {
-            Ok(value) => Ok(Some(value)),
-            Err(ReferenceFault::Memory) => Err(AllocError),
-            Err(fault) => {
-                self.note(place, SourceFaultKind::Reference(fault))?;
-                Ok(None)
-            }
-        }
-    }
-
-    /// What a word or a reference led to; a fault is kept, with what was tried for a reference, and is then none.
+    /// What a word, a folder or a reference led to; a fault is kept, with what was tried, and is then none.
     pub fn note_link<T: Drop>(
         &mut self,
         place: FaultPlace,
@@ -162,7 +113,7 @@ impl Walk {
             Ok(value) => Ok(Some(value)),
             Err(LinkFault::Memory) => Err(AllocError),
             Err(fault) => {
-                self.note(place, link_kind(place, tried, fault))?;
+                self.note(place, SourceFaultKind::Link { fault, tried })?;
                 Ok(None)
             }
         }

@@ -1,7 +1,6 @@
 // What is to be done, by the options of a call.
-use crate::words::{
-    Product, STANDARD_OUTPUT, Syntax, Task, WordsFault, contradiction, copy, usage,
-};
+use crate::flat_fault::FlatFault;
+use crate::words::{Product, STANDARD_OUTPUT, Syntax, Task, contradiction, copy, usage};
 use clap::ArgMatches;
 use std::alloc::Global;
 
@@ -25,7 +24,7 @@ const TASK_OPTIONS: [(&str, Wanted); 7] = [
 ];
 
 /// What is done. `Usage` where options contradict each other, or a file for the compact syntax ends in `.rng`.
-pub fn asked_task(alloc: Global, words: &ArgMatches<'_>) -> Result<Task, WordsFault> {
+pub fn asked_task(alloc: Global, words: &ArgMatches<'_>) -> Result<Task, FlatFault> {
     let syntax = if words.get_flag("rng") {
         Syntax::Xml
     } else {
@@ -63,7 +62,7 @@ fn wanted_task(
     name: &str,
     wanted: Wanted,
     syntax: Syntax,
-) -> Result<Task, WordsFault> {
+) -> Result<Task, FlatFault> {
     match wanted {
         Wanted::Product(product) => write_task(alloc, words, product),
         Wanted::Check | Wanted::Lint if words.get_str("output").is_some() => {
@@ -80,7 +79,7 @@ fn wanted_task(
 }
 
 /// A product is written, to a file or to standard output.
-fn write_task(alloc: Global, words: &ArgMatches<'_>, product: Product) -> Result<Task, WordsFault> {
+fn write_task(alloc: Global, words: &ArgMatches<'_>, product: Product) -> Result<Task, FlatFault> {
     let output = copy(alloc, words.get_str("output"))?;
     if let (Some(file), false) = (&output, product == Product::Schema(Syntax::Xml)) {
         check_name(alloc, file.as_str(), Syntax::Compact)?;
@@ -92,7 +91,7 @@ fn write_task(alloc: Global, words: &ArgMatches<'_>, product: Product) -> Result
 }
 
 /// Refuses the name of a file in the XML syntax for one that is not.
-fn check_name(alloc: Global, file: &str, syntax: Syntax) -> Result<(), WordsFault> {
+fn check_name(alloc: Global, file: &str, syntax: Syntax) -> Result<(), FlatFault> {
     if syntax == Syntax::Compact && file.ends_with(".rng") {
         return usage(
             alloc,

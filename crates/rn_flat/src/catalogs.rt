@@ -1,8 +1,9 @@
 // Where URIs lie, by the words of a job and by the catalogs that they name.
 use crate::flat_fault::FlatFault;
+use crate::reading_faults::reading_fault;
 use crate::words::Job;
-use rn_files::{CatalogRefusal, CatalogsFault, Files, Map, read_catalogs};
-use rn_report::{Format, catalog_text, is_unread_catalog};
+use rn_files::{Asked, Files, Map, read_catalogs};
+use rn_report::Format;
 use std::alloc::{AllocError, Global};
 
 /// The maps of a job, in groups: first those of its words, and then what its catalogs say. `Unread` where a catalog can't
@@ -20,8 +21,7 @@ pub fn job_maps<F: Files>(
             append(&mut groups, said)?;
             Ok(groups)
         }
-        Err(CatalogsFault::Refused(refusal)) => Err(refused(alloc, &refusal, format)?),
-        Err(CatalogsFault::Memory) => Err(FlatFault::Memory),
+        Err(fault) => Err(reading_fault(alloc, &Asked::nothing(), &fault, format)),
     }
 }
 
@@ -40,18 +40,4 @@ fn copies_of(alloc: Global, maps: &[Map]) -> Result<Vec<Map>, AllocError> {
         copies.push(map.clone()?)?;
     }
     Ok(copies)
-}
-
-/// The fault of catalogs that are refused.
-fn refused(
-    alloc: Global,
-    refusal: &CatalogRefusal,
-    format: Format,
-) -> Result<FlatFault, AllocError> {
-    let lines = catalog_text(alloc, refusal, format)?;
-    if is_unread_catalog(refusal) {
-        Ok(FlatFault::Unread(lines))
-    } else {
-        Ok(FlatFault::Refused(lines))
-    }
 }

@@ -3,7 +3,7 @@ use crate::unreached::unreached_names;
 use rn_assemble::Grammar;
 use rn_files::{Position, SourceFile};
 use rn_lift::Lifted;
-use rn_outline::{PartKind, name_in, read_outline};
+use rn_outline::{FilePartKind, name_in, read_outline};
 use rn_report::{DefinitionPlace, definition_places, push_printable};
 use rn_text::{is_keyword, tokens};
 use std::alloc::{AllocError, Global};
@@ -27,7 +27,7 @@ fn byte_of(place: &DefinitionPlace) -> (usize, usize) {
 
 /// A line for each definition that the start doesn't reach: `FILE:LINE:COLUMN: NAME`, in the order of the names of the
 /// files' modules and of their texts. A definition that has several names, as its file is used in several ways, is told
-/// where the start reaches none of them. Those that an include overrides are not told. Refused only for want of memory.
+/// where the start reaches none of them. Those that an include overrides are not told.
 pub fn unused_text(
     alloc: Global,
     grammar: &Grammar,
@@ -128,7 +128,7 @@ fn push_place(
 
 /// For each name of the schema a line for each of its definitions: the name as the schema writes it, and
 /// `FILE:LINE:COLUMN`. The names are in the order of the schema, the definitions of one in that in which they are
-/// combined (RELAX NG 2001, 4.17). Refused only for want of memory.
+/// combined (RELAX NG 2001, 4.17).
 pub fn origins_text(
     alloc: Global,
     schema: &str,
@@ -160,8 +160,8 @@ fn printed_names(alloc: Global, schema: &str) -> Result<Vec<String>, AllocError>
     let outline = read_outline(alloc, schema, tokens.as_slice()).map_err(|_| AllocError)?;
     for part in &outline.parts {
         match &part.kind {
-            PartKind::Start { .. } => names.push(String::new(alloc))?,
-            PartKind::Define { name, .. } => {
+            FilePartKind::Start { .. } => names.push(String::new(alloc))?,
+            FilePartKind::Define { name, .. } => {
                 names.push(String::from_str(alloc, name_in(schema, *name))?)?;
             }
             _ => {}

@@ -76,7 +76,7 @@ pub fn plain_lines(
 }
 
 /// The status with which the program ends after a fault: 1 where the schema is refused or differs, 2 for the words, 3
-/// for files, the output and want of memory.
+/// for files, the output and memory.
 pub fn status(fault: &FlatFault) -> u8
     ensures { result ≡ status fault.now }
 {

@@ -58,62 +58,42 @@ pub fn perform<F: Files, S: Outputs, W: Sink>(
     ensures outputs { LeavesOutput result (outputs.new ≡ outputs.old) }
     ensures unwritten { WritesNothing job.now.task (out.new ≡ out.old) (outputs.new ≡ outputs.old) }
 {
-    match job_maps(alloc, files, job, format) {
-        Ok(maps) => {
-            let asked = asked_of(job, maps.as_slice());
-            perform_asked(alloc, files, &job.task, &asked, format, outputs, out)
-        }
-        Err(fault) => Err(fault),
-    }
-}
-
-/// Does what is to be done with the files that are asked for, as [`perform`] says.
-fn perform_asked<F: Files, S: Outputs, W: Sink>(
-    alloc: Global,
-    files: &F,
-    task: &Task,
-    asked: &Asked<'_>,
-    format: Format,
-    outputs: &mut S,
-    out: &mut W,
-) -> Result<Ending, FlatFault>
-    requires { W.has_failed out.old ≡ false }
-    ensures delivers { Delivers task.now (W.contents out.old) (W.contents out.new)
-        (S.holds outputs.new) (F.gives files.now) result }
-    ensures sink { LeavesOutput result (out.new ≡ out.old) }
-    ensures outputs { LeavesOutput result (outputs.new ≡ outputs.old) }
-    ensures unwritten { WritesNothing task.now (out.new ≡ out.old) (outputs.new ≡ outputs.old) }
-{
-    let linked = match read_files(alloc, files, asked) {
+    let maps = job_maps(alloc, files, job, format)?;
+    let asked = asked_of(job, maps.as_slice());
+    let linked = match read_files(alloc, files, &asked) {
         Ok(linked) => linked,
-        Err(reading) => return Err(reading_fault(alloc, asked, &reading, format)),
+        Err(reading) => return Err(reading_fault(alloc, &asked, &reading, format)),
     };
-    match task {
-        Task::Write { product, output } => {
-            if let Some(path) = output {
-                let read = linked.sources.files.as_slice();
-                check_output(alloc, files, read, path.as_str(), format)?;
+    match &job.task {
+        Task::Write {
+            product,
+            output: Some(path),
+        } => {
+            let read = linked.sources.files.as_slice();
+            check_output(alloc, files, read, path.as_str(), format)?;
+            let made = made_of(alloc, files, &asked, linked, *product, format)?;
+            match write_file(alloc, outputs, path.as_str(), made.text.as_slice(), format) {
+                Ok(()) => Ok(made.ending),
+                Err(fault) => Err(fault),
             }
-            let made = made_of(alloc, files, asked, linked, *product, format)?;
-            let text = made.text.as_slice();
-            match output {
-                Some(path) => match write_file(alloc, outputs, path.as_str(), text, format) {
-                    Ok(()) => Ok(made.ending),
-                    Err(fault) => Err(fault),
-                },
-                None => match write_standard(alloc, out, text, format) {
-                    Ok(()) => Ok(made.ending),
-                    Err(fault) => Err(fault),
-                },
+        }
+        Task::Write {
+            product,
+            output: None,
+        } => {
+            let made = made_of(alloc, files, &asked, linked, *product, format)?;
+            match write_standard(alloc, out, made.text.as_slice(), format) {
+                Ok(()) => Ok(made.ending),
+                Err(fault) => Err(fault),
             }
         }
         Task::Check { file, syntax } => {
-            let sources = sound_sources(alloc, files, asked, linked, format)?;
+            let sources = sound_sources(alloc, files, &asked, linked, format)?;
             check_schema(alloc, files, sources, file.as_str(), *syntax, format)?;
             Ok(Ending::Clean)
         }
         Task::Lint => {
-            let sources = sound_sources(alloc, files, asked, linked, format)?;
+            let sources = sound_sources(alloc, files, &asked, linked, format)?;
             lint(alloc, &sources, format)?;
             Ok(Ending::Clean)
         }
@@ -313,7 +293,7 @@ fn schema_text(alloc: Global, sources: Sources, format: Format) -> Result<String
     schema(alloc, &lifted, files.as_slice(), format)
 }
 
-/// Gives up the outlines of lifted files: messages need their names and texts alone.
+/// Drops the outlines of lifted files: messages need their names and texts alone.
 fn give_up_outlines(alloc: Global, files: &mut Vec<SourceFile>)
     ensures { map told_of files.new.items ≡ map told_of files.old.items }
 {
@@ -322,7 +302,7 @@ fn give_up_outlines(alloc: Global, files: &mut Vec<SourceFile>)
     }
 }
 
-/// Gives up what a file was lifted by.
+/// Drops what a file was lifted by.
 fn give_up_outline(alloc: Global, file: &mut SourceFile)
     ensures { told_of file.new ≡ told_of file.old }
 {

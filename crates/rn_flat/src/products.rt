@@ -1,7 +1,7 @@
 // What is made of the modules and the files besides the schema and the bundle: the list and the graph.
 use rn_files::{SourceFault, SourceFaultKind, SourceFile};
 use rn_lift::{Lifted, LiftedModule};
-use rn_outline::PartKind;
+use rn_outline::FilePartKind;
 use rn_report::push_printable;
 use std::alloc::{AllocError, Global};
 use std::collections::BTreeSet;
@@ -104,7 +104,7 @@ fn push_edges(
 fn is_external(file: &SourceFile, part: usize) -> bool {
     matches!(
         file.outline.parts.get(part).map(|part| &part.kind),
-        Some(PartKind::External { .. })
+        Some(FilePartKind::External { .. })
     )
 }
 

@@ -8,8 +8,7 @@ ghost use Rattle.rn_flat.specs.UnreachedNames.{AreUnreached, TellReached, names_
 use rn_assemble::{Definitions, Grammar};
 use std::alloc::{AllocError, Global};
 
-/// The names of the definitions that the start doesn't reach (RELAX NG 2001, 4.19), in the order of the grammar. Refused
-/// only for want of memory.
+/// The names of the definitions that the start doesn't reach (RELAX NG 2001, 4.19), in the order of the grammar.
 pub fn unreached_names(alloc: Global, grammar: &Grammar) -> Result<Vec<String>, AllocError>
     ensures { IfOk result (λ names.
         AreUnreached (grammar_view grammar.now) (map string_bytes names.items)) }

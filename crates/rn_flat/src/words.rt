@@ -1,13 +1,12 @@
 // What the words of a call ask for.
 
 use crate::asked_tasks::asked_task;
+use crate::flat_fault::FlatFault;
 use clap::error::ErrorKind;
 use clap::{Arg, ArgAction, ArgMatches, Command};
 use rn_files::{Map, STANDARD_INPUT};
 use rn_merge::copies;
 use std::alloc::{AllocError, Global};
-use std::error::Error;
-use std::fmt;
 
 /// The word for standard output: that for standard input.
 pub(crate) const STANDARD_OUTPUT: &str = STANDARD_INPUT;
@@ -117,50 +116,19 @@ pub enum Words {
     Shown(String),
 }
 
-/// Why the words ask for nothing.
-#[derive(Debug, Drop, PartialEq, Eq)]
-pub enum WordsFault {
-    /// The words can't be understood; the text says why.
-    Usage(String),
-    /// A request for memory was refused.
-    Memory,
-}
-
-impl fmt::Display for WordsFault {
-    fn fmt<W: fmt::Write>(&self, f: &mut fmt::Formatter<W>) -> fmt::Result {
-        match self {
-            WordsFault::Usage(text) => f.write_str(text.as_str()),
-            WordsFault::Memory => f.write_str("out of memory"),
-        }
-    }
-}
-
-impl Error for WordsFault {}
-
-impl From<AllocError> for WordsFault {
-    ghost use Rattle.std.specs.Prelude.{◌≡◌};
-    ghost use Rattle.rn_flat.specs.declared.words.WordsFault.TheVariants.{Memory};
-
-    ghost from_gives = { λ _ fault. fault ≡ Memory };
-
-    fn from(_: AllocError) -> Self {
-        WordsFault::Memory
-    }
-}
-
 /// What the words behind the program's name ask for. No file is read. `Usage` where an option is unknown, lacks its
 /// value, is given twice or contradicts another, where no file is named or one has no name, where a map is not
 /// `PREFIX=FOLDER`, where standard input would be read twice, where it is named and not read, or where a file for the
 /// compact syntax ends in `.rng`.
-pub fn read_words(alloc: Global, words: &[String]) -> Result<Words, WordsFault> {
+pub fn read_words(alloc: Global, words: &[String]) -> Result<Words, FlatFault> {
     match program(alloc)?.try_get_matches_from(words) {
         Ok(matches) => asked_words(alloc, &matches),
         Err(error) => match error.kind() {
-            ErrorKind::OutOfMemory => Err(WordsFault::Memory),
+            ErrorKind::OutOfMemory => Err(FlatFault::Memory),
             ErrorKind::DisplayHelp | ErrorKind::DisplayVersion => Ok(Words::Shown(format!(in alloc;
                 "{error}"
             )?)),
-            _ => Err(WordsFault::Usage(format!(in alloc; "{error}")?)),
+            _ => Err(FlatFault::Usage(format!(in alloc; "{error}")?)),
         },
     }
 }
@@ -312,7 +280,7 @@ fn catalog_option<'a>(alloc: Global) -> Arg<'a> {
 }
 
 /// What the words ask for, which are understood one by one.
-fn asked_words(alloc: Global, words: &ArgMatches<'_>) -> Result<Words, WordsFault> {
+fn asked_words(alloc: Global, words: &ArgMatches<'_>) -> Result<Words, FlatFault> {
     let files = copies(alloc, words.get_strs("FILE").unwrap_or(&[]))?;
     let maps = maps(alloc, words.get_strs("map").unwrap_or(&[]))?;
     let catalogs = copies(alloc, words.get_strs("catalog").unwrap_or(&[]))?;
@@ -342,7 +310,7 @@ fn asked_input(
     alloc: Global,
     words: &ArgMatches<'_>,
     files: &[String],
-) -> Result<Option<String>, WordsFault> {
+) -> Result<Option<String>, FlatFault> {
     let input = words.get_str("stdin-name");
     if input == Some("") {
         return usage(alloc, "--stdin-name needs the name of a file");
@@ -375,13 +343,13 @@ fn colour_choice(words: &ArgMatches<'_>) -> ColourChoice {
 }
 
 /// The maps of these words. A word ends its prefix at the last `=`, so that a prefix may have one.
-fn maps(alloc: Global, words: &[&str]) -> Result<Vec<Map>, WordsFault> {
+fn maps(alloc: Global, words: &[&str]) -> Result<Vec<Map>, FlatFault> {
     let mut maps = Vec::new(alloc);
     for word in words {
         match word.rsplit_once('=') {
             Some((prefix, folder)) if !prefix.is_empty() && !folder.is_empty() => {
                 let map = Map::below(alloc, prefix, folder)?;
-                maps.push(map).map_err(|_| WordsFault::Memory)?;
+                maps.push(map)?;
             }
             _ => return usage(alloc, "the value of --map must be PREFIX=FOLDER"),
         }
@@ -398,7 +366,7 @@ pub(crate) fn copy(alloc: Global, word: Option<&str>) -> Result<Option<String>, 
 }
 
 /// Two options can't be given together.
-pub(crate) fn contradiction<T>(alloc: Global, one: &str, other: &str) -> Result<T, WordsFault> {
+pub(crate) fn contradiction<T>(alloc: Global, one: &str, other: &str) -> Result<T, FlatFault> {
     usage(
         alloc,
         format!(in alloc; "--{one} can't be given with --{other}")?.as_str(),
@@ -406,8 +374,8 @@ pub(crate) fn contradiction<T>(alloc: Global, one: &str, other: &str) -> Result<
 }
 
 /// What is wrong with the words, and where to look.
-pub(crate) fn usage<T>(alloc: Global, wrong: &str) -> Result<T, WordsFault> {
-    Err(WordsFault::Usage(format!(in alloc;
+pub(crate) fn usage<T>(alloc: Global, wrong: &str) -> Result<T, FlatFault> {
+    Err(FlatFault::Usage(format!(in alloc;
         "error: {wrong}\n\nFor more information, try '--help'.\n"
     )?))
 }

@@ -2,11 +2,11 @@
 use Rattle.std.specs.Prelude.{◌≡◌, ◌≢◌, ℕ, ◌<◌, ◌⊎◌, false, ⊤, List, [], ◌++◌, All, Contains, Option, Some, None, codes, length, map, slice_get, slice_range, string_bytes}
 use Rattle.std.specs.List.{AllByRecursion, list_any}
 use Rattle.rn_outline.specs.Links.{targets_of}
-use Rattle.rn_outline.specs.declared.file_parts.Part.{Part}
-use Rattle.rn_outline.specs.declared.file_parts.PartKind.{PartKind}
-use Rattle.rn_outline.specs.declared.file_parts.PartKind.TheVariants.{Define, Start, Reference}
+use Rattle.rn_outline.specs.declared.file_parts.FilePart.{FilePart}
+use Rattle.rn_outline.specs.declared.file_parts.FilePartKind.{FilePartKind}
+use Rattle.rn_outline.specs.declared.file_parts.FilePartKind.TheVariants.{Define, Start, Reference}
 use Rattle.rn_outline.specs.declared.file_parts.Span.{Span}
-use Rattle.rn_scopes.specs.declared.given.Lifting.{Lifting}
+use Rattle.rn_scopes.specs.declared.input_files.Lifting.{Lifting}
 use Rattle.rn_lift.specs.Edits.{AreInTurn, edited_bytes}
 use Rattle.rn_lift.specs.Lifts.{bringing_bytes}
 use Rattle.rn_lift.specs.StandIns.{IsEdit, Modules, Scopes, Stays}
@@ -28,8 +28,8 @@ abbrev pub IsWhole : Basis → List ℕ → Type 0
 IsWhole b added = (b.grammar ≡ 0) × (added ≡ [])
 
 -- each part of the grammar stays as it is, or an edit is for it
-pub record OthersStay (b : Basis) (parts : List Part) (edits : List Edit) : Type 0 where
-  pub each : (n : ℕ) (p : Part) → slice_get parts n ≡ Some p → p.grammar ≡ b.grammar → Stays b.scope p ⊎ Contains (map (λ e. e.part) edits) n
+pub record OthersStay (b : Basis) (parts : List FilePart) (edits : List Edit) : Type 0 where
+  pub each : (n : ℕ) (p : FilePart) → slice_get parts n ≡ Some p → p.grammar ≡ b.grammar → Stays b.scope p ⊎ Contains (map (λ e. e.part) edits) n
 
 -- The text of a module that is made of a file or of a grammar in it: each byte is as it is in the file, but for what stands in the
 -- place of parts. That of a nested grammar is what stands between its braces, behind the declarations of the file. Declarations are
@@ -46,13 +46,13 @@ pub record IsModuleOf (modules : Modules) (scopes : Scopes) (start : List ℕ) (
   pub of_file : b.grammar ≡ 0 → inside ≡ record { from = file.outline.now.body.from; to = length file.text.now }
 
 -- no other text stands in the place of a part like this in the scope of the roots
-abbrev pub IsKeptKind : PartKind → Type 0
+abbrev pub IsKeptKind : FilePartKind → Type 0
 IsKeptKind (Define _ _ _ _ _) = ⊤
 IsKeptKind (Start word _ _ _ _) = word.from < word.to
 IsKeptKind (Reference _) = ⊤
 IsKeptKind _ = ⊥
 
-abbrev pub IsKept : Part → Type 0
+abbrev pub IsKept : FilePart → Type 0
 IsKept p = (p.in_except ≡ false) × IsKeptKind p.kind
 
 -- a file that includes nothing and has nothing that is lifted

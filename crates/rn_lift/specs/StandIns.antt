@@ -2,9 +2,9 @@
 use Rattle.std.specs.Prelude.{◌≡◌, ◌≢◌, ℕ, ◌<◌, ◌≤◌, ◌⊎◌, false, ⊤, List, [], ◌∷◌, ◌++◌, Option, Some, slice_get, string_bytes, unwrap_or, None}
 use Rattle.rn_text.specs.Literals.{literal_bytes}
 use Rattle.rn_outline.specs.Spans.{mark}
-use Rattle.rn_outline.specs.declared.file_parts.Part.{Part}
-use Rattle.rn_outline.specs.declared.file_parts.PartKind.{PartKind}
-use Rattle.rn_outline.specs.declared.file_parts.PartKind.TheVariants.{Define, Start, Reference, Parent, External, Include, Grammar}
+use Rattle.rn_outline.specs.declared.file_parts.FilePart.{FilePart}
+use Rattle.rn_outline.specs.declared.file_parts.FilePartKind.{FilePartKind}
+use Rattle.rn_outline.specs.declared.file_parts.FilePartKind.TheVariants.{Define, Start, Reference, Parent, External, Include, Grammar}
 use Rattle.rn_lift.specs.declared.edits.Edit.{Edit}
 use Rattle.rn_lift.specs.declared.lifted.Basis.{Basis}
 
@@ -36,7 +36,7 @@ pub record IsLifted (modules : Modules) (scopes : Scopes) (start : List ℕ) (na
 
 -- what may stand in the place of a part that is not excepted, where the module is of this file and this scope: an include's literal,
 -- the reference that an external and a nested grammar become, and names in a scope that is not that of the roots
-abbrev pub StandsForKind : Modules → Scopes → List ℕ → Basis → Option ℕ → PartKind → List ℕ → Type 0
+abbrev pub StandsForKind : Modules → Scopes → List ℕ → Basis → Option ℕ → FilePartKind → List ℕ → Type 0
 StandsForKind modules scopes start b named (Include _ _ _) text = IsIncluded modules b.scope named text
 StandsForKind modules scopes start b named (External _ _ _) text = IsLifted modules scopes start named 0 text
 StandsForKind modules scopes start b named (Grammar number _) text = IsLifted modules scopes start (Some b.file) number text
@@ -45,22 +45,22 @@ StandsForKind modules scopes start b named (Start word _ _ _ _) text = (b.scope 
 StandsForKind modules scopes start b named _ text = b.scope ≢ 0
 
 -- a part of which nothing is replaced: a definition and a start in the scope of the roots, and a reference
-abbrev pub KindStays : ℕ → PartKind → Type 0
+abbrev pub KindStays : ℕ → FilePartKind → Type 0
 KindStays scope (Define _ _ _ _ _) = scope ≡ 0
 KindStays scope (Start word _ _ _ _) = (scope ≡ 0) × (word.from < word.to)
 KindStays scope (Reference _) = ⊤
 KindStays scope _ = ⊥
 
-abbrev pub StandsFor : Modules → Scopes → List ℕ → Basis → Option ℕ → Part → List ℕ → Type 0
+abbrev pub StandsFor : Modules → Scopes → List ℕ → Basis → Option ℕ → FilePart → List ℕ → Type 0
 StandsFor modules scopes start b named p text = p.in_except ≡ false → StandsForKind modules scopes start b named p.kind text
 
-abbrev pub Stays : ℕ → Part → Type 0
+abbrev pub Stays : ℕ → FilePart → Type 0
 Stays scope p = (p.in_except ≡ false) × KindStays scope p.kind
 
 -- an edit puts in the place of a part of the grammar, or of its name, what stands for it; these are all parts of the file, and what
 -- each names
-pub record IsEdit (modules : Modules) (scopes : Scopes) (start : List ℕ) (b : Basis) (parts : List Part) (named : List (Option ℕ)) (e : Edit) : Type 0 where
-  pub part : Part
+pub record IsEdit (modules : Modules) (scopes : Scopes) (start : List ℕ) (b : Basis) (parts : List FilePart) (named : List (Option ℕ)) (e : Edit) : Type 0 where
+  pub part : FilePart
   pub is_part : slice_get parts e.part ≡ Some part
   pub in_grammar : part.grammar ≡ b.grammar
   pub at_mark : e.span ≡ mark part

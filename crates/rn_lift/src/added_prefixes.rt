@@ -1,7 +1,7 @@
 // Prefixes that a module gets for the libraries of datatypes that come from another file.
 
 use rn_outline::unquoted_name;
-use rn_scopes::{Given, Taken, Units};
+use rn_scopes::{InputFile, Taken, Units};
 use rn_text::{Kind, Token, tokens, write_literal};
 use std::alloc::{AllocError, Global};
 use std::collections::BTreeMap;
@@ -62,7 +62,7 @@ impl AddedPrefixes {
     fn add(
         &mut self,
         alloc: Global,
-        here: &Given<'_>,
+        here: &InputFile<'_>,
         library: &str,
         prefix: &str,
     ) -> Result<(), AllocError> {

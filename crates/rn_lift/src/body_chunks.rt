@@ -3,7 +3,7 @@ ghost use Rattle.std.specs.Prelude.{◌<◌, length, IfOk};
 ghost use Rattle.rn_text.specs.Reading.{Advanced};
 
 use crate::added_prefixes::split_name;
-use rn_outline::{Part, PartKind, Span, annotation_end};
+use rn_outline::{FilePart, FilePartKind, Span, annotation_end};
 use rn_scopes::Units;
 use rn_text::{Token, tokens};
 use std::alloc::{AllocError, Global};
@@ -103,9 +103,9 @@ fn chunks(
     Ok(cutter.chunks)
 }
 
-fn body_of(part: &Part) -> Span {
+fn body_of(part: &FilePart) -> Span {
     match &part.kind {
-        PartKind::Define { body, .. } | PartKind::Start { body, .. } => *body,
+        FilePartKind::Define { body, .. } | FilePartKind::Start { body, .. } => *body,
         _ => part.at,
     }
 }
@@ -124,7 +124,7 @@ impl Cutter {
     fn cut(
         &mut self,
         alloc: Global,
-        parts: &[Part],
+        parts: &[FilePart],
         tokens: &[Token<'_>],
     ) -> Result<(), AllocError> {
         let mut at = 0;
@@ -138,7 +138,7 @@ impl Cutter {
     fn step(
         &mut self,
         alloc: Global,
-        parts: &[Part],
+        parts: &[FilePart],
         tokens: &[Token<'_>],
         at: usize,
     ) -> Result<usize, AllocError>
@@ -164,7 +164,7 @@ impl Cutter {
     }
 
     /// The part that begins at a byte.
-    fn part_at<'p>(&mut self, parts: &'p [Part], begin: usize) -> Option<&'p Part> {
+    fn part_at<'p>(&mut self, parts: &'p [FilePart], begin: usize) -> Option<&'p FilePart> {
         for part in parts.get(self.next..)? {
             if part.at.from >= begin {
                 return if part.at.from == begin {

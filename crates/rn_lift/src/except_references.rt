@@ -1,7 +1,7 @@
 // References in excepts: the parts that they are, the names that they mean, and whether these are data
 // (RELAX NG 2001, 7.1.4).
 use crate::scope_definitions::{Definition, ScopedName};
-use rn_outline::{OutlineMethod, Part, PartKind};
+use rn_outline::{FilePart, FilePartKind, OutlineMethod};
 use rn_scopes::{LiftFault, LiftFaultKind, Plan, Units};
 use std::alloc::{AllocError, Global};
 
@@ -21,7 +21,7 @@ pub(crate) fn file_of(units: &Units<'_>, plan: &Plan, place: usize) -> usize {
     }
 }
 
-fn part_at<'a>(units: &Units<'a>, plan: &Plan, at: Reference) -> Option<&'a Part> {
+fn part_at<'a>(units: &Units<'a>, plan: &Plan, at: Reference) -> Option<&'a FilePart> {
     units
         .files
         .get(file_of(units, plan, at.place))?
@@ -69,14 +69,14 @@ pub(crate) fn are_data(units: &Units<'_>, plan: &Plan, standing: &[Definition]) 
     })
 }
 
-fn is_data(kind: &PartKind, is_combined: bool) -> bool {
+fn is_data(kind: &FilePartKind, is_combined: bool) -> bool {
     match kind {
-        PartKind::Define {
+        FilePartKind::Define {
             method,
             only_data,
             ..
         }
-        | PartKind::Start {
+        | FilePartKind::Start {
             method,
             only_data,
             ..

@@ -11,9 +11,9 @@ use crate::draft::Draft;
 use crate::edits::edits_of;
 use crate::excepts::{Excepts, Spliced};
 use crate::lifted::{Basis, LiftedModule};
-use rn_outline::{Part, PartKind, Span, name_in};
+use rn_outline::{FilePart, FilePartKind, Span, name_in};
 use rn_scopes::{
-    Given, LiftFault, LiftFaultKind, PlacedUnit, Plan, ROOT, Scope, Unit, Units, own_name,
+    InputFile, LiftFault, LiftFaultKind, PlacedUnit, Plan, ROOT, Scope, Unit, Units, own_name,
 };
 use rn_text::write_literal;
 use std::alloc::{AllocError, Global};
@@ -23,7 +23,7 @@ use std::alloc::{AllocError, Global};
 pub(crate) struct PlaceView<'u, 'a> {
     units: &'u Units<'a>,
     plan: &'u Plan,
-    pub(crate) given: &'u Given<'a>,
+    pub(crate) given: &'u InputFile<'a>,
     /// The index of the place.
     number: usize,
     /// What it is made of.
@@ -76,7 +76,7 @@ pub(crate) fn module_at(
 struct PlaceWithFile<'u, 'a> {
     place: &'u PlacedUnit,
     unit: &'u Unit,
-    given: &'u Given<'a>,
+    given: &'u InputFile<'a>,
 }
 
 /// The place of this index, with its unit and its file.
@@ -142,7 +142,11 @@ fn inside_of(view: &PlaceView<'_, '_>, unit: &Unit) -> Span
 }
 
 /// Writes the declarations of the file, and those that texts in excepts need.
-fn write_front(draft: &mut Draft<'_>, given: &Given<'_>, spliced: &Spliced) -> Result<(), LiftFault>
+fn write_front(
+    draft: &mut Draft<'_>,
+    given: &InputFile<'_>,
+    spliced: &Spliced,
+) -> Result<(), LiftFault>
     requires { draft.old.source.now ≡ given.now.file.text.now }
     ensures text { OnOk result (string_bytes draft.new.text ≡ string_bytes draft.old.text
         ++ front given.now.file (string_bytes spliced.now.declarations)) }
@@ -179,7 +183,7 @@ impl<'u, 'a> PlaceView<'u, 'a> {
         &self,
         alloc: Global,
         number: usize,
-        part: &Part,
+        part: &FilePart,
         spliced: &Spliced,
     ) -> Result<Option<String>, LiftFault>
         ensures { IfOk result (λ r. MatchOption r (Stays self.now.basis.scope part.now)
@@ -199,7 +203,7 @@ impl<'u, 'a> PlaceView<'u, 'a> {
         &self,
         alloc: Global,
         number: usize,
-        kind: &PartKind,
+        kind: &FilePartKind,
     ) -> Result<Option<String>, LiftFault>
         ensures { IfOk result (λ r. MatchOption r (KindStays self.now.basis.scope kind.now)
             (λ text. StandsForKindAt self.now number kind.now (string_bytes text))) }
@@ -209,17 +213,17 @@ impl<'u, 'a> PlaceView<'u, 'a> {
         let plan = self.plan;
         let scope = self.basis.scope;
         match kind {
-            PartKind::Define { name, .. } => self.name(alloc, scope, name_in(text, *name)),
-            PartKind::Start { word, .. } => self.start(alloc, *word),
-            PartKind::Reference { name } => {
+            FilePartKind::Define { name, .. } => self.name(alloc, scope, name_in(text, *name)),
+            FilePartKind::Start { word, .. } => self.start(alloc, *word),
+            FilePartKind::Reference { name } => {
                 self.name(alloc, plan.reference_scope_of(scope), name_in(text, *name))
             }
-            PartKind::Parent { name } => self.parent(alloc, *name),
-            PartKind::Include { .. } => Ok(Some(self.include(alloc, number)?)),
-            PartKind::External { .. } => {
+            FilePartKind::Parent { name } => self.parent(alloc, *name),
+            FilePartKind::Include { .. } => Ok(Some(self.include(alloc, number)?)),
+            FilePartKind::External { .. } => {
                 Ok(Some(self.lifted_reference(alloc, number, given.target(number), 0)?))
             }
-            PartKind::Grammar {
+            FilePartKind::Grammar {
                 number: grammar,
                 ..
             } => {

@@ -1,6 +1,6 @@
 // Which definitions a name has in a scope, once overrides are done (RELAX NG 2001, 4.7).
 
-use rn_outline::PartKind;
+use rn_outline::FilePartKind;
 use rn_scopes::{Plan, ROOT, Unit, Units};
 use std::alloc::{AllocError, Global};
 use std::collections::{BTreeMap, BTreeSet};
@@ -74,7 +74,7 @@ impl Definitions {
                 continue;
             };
             let within = match &part.kind {
-                PartKind::Define { within, .. } | PartKind::Start { within, .. } => *within,
+                FilePartKind::Define { within, .. } | FilePartKind::Start { within, .. } => *within,
                 _ => continue,
             };
             let key = ScopedName::new(alloc, scope, units.name_meant(unit.file, &part.kind))?;

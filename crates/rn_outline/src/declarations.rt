@@ -4,7 +4,7 @@ ghost use Rattle.rn_text.specs.Reading.{Advanced};
 ghost use Rattle.rn_text.specs.inside.Reading.{Passed};
 
 use crate::file_parts::{DeclarationKind, OutlineDeclaration, OutlineUri, Span};
-use crate::outline_fault::Stop;
+use crate::outline_fault::TokenFault;
 use crate::signs::{Sign, Word, sign_at, span};
 use crate::skips::{literal_at, plain_assign, word};
 use rn_text::Token;
@@ -14,7 +14,7 @@ use std::alloc::Global;
 pub(crate) fn declarations(
     alloc: Global,
     tokens: &[Token<'_>],
-) -> Result<(Vec<OutlineDeclaration>, usize), Stop>
+) -> Result<(Vec<OutlineDeclaration>, usize), TokenFault>
     ensures { IfOk result (λ r. r.1 ≤ length tokens.now) }
 {
     let mut declarations = Vec::new(alloc);
@@ -49,7 +49,7 @@ fn declaration(
     at: usize,
     kind: DeclarationKind,
     behind: usize,
-) -> Result<(OutlineDeclaration, usize), Stop>
+) -> Result<(OutlineDeclaration, usize), TokenFault>
     requires { Advanced at behind (length tokens.now) }
     ensures { IfOk result (λ r. Advanced at r.1 (length tokens.now)) }
 {
@@ -71,7 +71,7 @@ fn prefix(
     tokens: &[Token<'_>],
     at: usize,
     kind: DeclarationKind,
-) -> Result<(Option<Span>, usize), Stop>
+) -> Result<(Option<Span>, usize), TokenFault>
     requires { at ≤ length tokens.now }
     ensures { IfOk result (λ r. Passed at r.1 (length tokens.now)) }
 {
@@ -90,7 +90,7 @@ fn uri(
     tokens: &[Token<'_>],
     at: usize,
     kind: DeclarationKind,
-) -> Result<(OutlineUri, usize), Stop>
+) -> Result<(OutlineUri, usize), TokenFault>
     requires { at ≤ length tokens.now }
     ensures { IfOk result (λ r. Advanced at r.1 (length tokens.now)) }
 {

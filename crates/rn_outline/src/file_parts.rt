@@ -78,7 +78,7 @@ pub struct OutlineDeclaration {
 /// A part of a file. Parts are in the order in which they begin; one is within another, or apart
 /// from it.
 #[derive(Debug, Drop, PartialEq, Eq)]
-pub struct Part {
+pub struct FilePart {
     /// From its first token to the end of its last one.
     pub at: Span,
     /// The grammar that it belongs to: 0 is the file's own, and each nested one has a number of its
@@ -88,12 +88,12 @@ pub struct Part {
     /// operators between.
     pub in_except: bool,
     /// What kind of part it is, with the bytes of what it is made of.
-    pub kind: PartKind,
+    pub kind: FilePartKind,
 }
 
 /// What a part is, with the bytes of what it is made of.
 #[derive(Debug, Drop, PartialEq, Eq)]
-pub enum PartKind {
+pub enum FilePartKind {
     /// A definition (RELAX NG 2001, 4.17).
     Define {
         /// The token that is its name.
@@ -170,7 +170,7 @@ pub struct Outline {
     /// What follows the declarations.
     pub body: Span,
     /// The parts of the body, in the order in which they begin.
-    pub parts: Vec<Part>,
+    pub parts: Vec<FilePart>,
     /// How many grammars the parts belong to, the file's own among them.
     pub grammars: usize,
 }
@@ -202,16 +202,16 @@ impl Outline {
     }
 }
 
-impl Part {
+impl FilePart {
     /// The bytes that are replaced if something else replaces the part: of a definition the
     /// name that it defines, of an include its literal; else the whole part.
     pub fn mark(&self) -> Span
         ensures { result ≡ mark self.now }
     {
         match &self.kind {
-            PartKind::Define { name, .. } => *name,
-            PartKind::Start { word, .. } => *word,
-            PartKind::Include { literal_at, .. } => *literal_at,
+            FilePartKind::Define { name, .. } => *name,
+            FilePartKind::Start { word, .. } => *word,
+            FilePartKind::Include { literal_at, .. } => *literal_at,
             _ => self.at,
         }
     }
@@ -221,19 +221,19 @@ impl Part {
         ensures { result ≡ front_end self.now }
     {
         match &self.kind {
-            PartKind::Grammar { inside, .. } => inside.from,
+            FilePartKind::Grammar { inside, .. } => inside.from,
             _ => self.mark().to,
         }
     }
 }
 
 /// Whether a part names another file: an external or an include.
-pub fn is_link(part: &Part) -> bool
+pub fn is_link(part: &FilePart) -> bool
     ensures { result ≡ is_link part.now }
 {
     matches!(
         &part.kind,
-        PartKind::External { .. } | PartKind::Include { .. }
+        FilePartKind::External { .. } | FilePartKind::Include { .. }
     )
 }
 

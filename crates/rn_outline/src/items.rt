@@ -2,15 +2,19 @@
 ghost use Rattle.std.specs.Prelude.{◌<◌, ◌≤◌, ◌+◌, length};
 ghost use Rattle.rn_text.specs.inside.Reading.{GoesPast};
 
-use crate::file_parts::{OutlineMethod, PartKind};
-use crate::outline_fault::{Stop, Wanted};
+use crate::file_parts::{FilePartKind, OutlineMethod};
+use crate::outline_fault::{TokenFault, Wanted};
 use crate::outline_reader::{Frame, Mode, Reader};
 use crate::signs::{Sign, Word, end, sign_at, span};
 use crate::skips::{annotation, inherit, left_brace, literal_at};
 use rn_text::Token;
 
 /// Reads the front of an item, or the end of the items.
-pub(crate) fn item(reader: &mut Reader, tokens: &[Token<'_>], at: usize) -> Result<usize, Stop>
+pub(crate) fn item(
+    reader: &mut Reader,
+    tokens: &[Token<'_>],
+    at: usize,
+) -> Result<usize, TokenFault>
     requires { at ≤ length tokens.now }
     ensures { GoesPast at (length tokens.now) result }
 {
@@ -26,15 +30,15 @@ pub(crate) fn item(reader: &mut Reader, tokens: &[Token<'_>], at: usize) -> Resu
         }
         Sign::Word(Word::Include) => include(reader, tokens, at),
         Sign::RightBrace => {
-            close(reader, end(tokens, at + 1)).ok_or(Stop::Stuck(at))?;
+            close(reader, end(tokens, at + 1)).ok_or(TokenFault::Stuck(at))?;
             Ok(at + 1)
         }
-        _ => Err(Stop::Stuck(at)),
+        _ => Err(TokenFault::Stuck(at)),
     }
 }
 
 /// A definition, or an annotation element.
-fn named_item(reader: &mut Reader, tokens: &[Token<'_>], at: usize) -> Result<usize, Stop>
+fn named_item(reader: &mut Reader, tokens: &[Token<'_>], at: usize) -> Result<usize, TokenFault>
     requires { at < length tokens.now }
     ensures { GoesPast at (length tokens.now) result }
 {
@@ -44,7 +48,7 @@ fn named_item(reader: &mut Reader, tokens: &[Token<'_>], at: usize) -> Result<us
             define(reader, tokens, at, method)?;
             Ok(at + 2)
         }
-        _ => Err(Stop::Lacking(at + 1, Wanted::Assignment)),
+        _ => Err(TokenFault::Lacking(at + 1, Wanted::Assignment)),
     }
 }
 
@@ -53,11 +57,11 @@ fn define(
     tokens: &[Token<'_>],
     at: usize,
     method: OutlineMethod,
-) -> Result<(), Stop>
+) -> Result<(), TokenFault>
     requires { at + 1 < length tokens.now }
 {
     let name = span(tokens, at, at + 1);
-    let kind = PartKind::Define {
+    let kind = FilePartKind::Define {
         name,
         method,
         body: span(tokens, at + 2, at + 2),
@@ -68,15 +72,15 @@ fn define(
     reader.begin_body(Frame::Body)
 }
 
-fn start(reader: &mut Reader, tokens: &[Token<'_>], at: usize) -> Result<usize, Stop>
+fn start(reader: &mut Reader, tokens: &[Token<'_>], at: usize) -> Result<usize, TokenFault>
     requires { at < length tokens.now }
     ensures { GoesPast at (length tokens.now) result }
 {
     let Sign::Assign(method) = sign_at(tokens, at + 1) else {
-        return Err(Stop::Lacking(at + 1, Wanted::Assignment));
+        return Err(TokenFault::Lacking(at + 1, Wanted::Assignment));
     };
     let word = span(tokens, at, at + 1);
-    let kind = PartKind::Start {
+    let kind = FilePartKind::Start {
         word,
         method,
         body: span(tokens, at + 2, at + 2),
@@ -88,17 +92,17 @@ fn start(reader: &mut Reader, tokens: &[Token<'_>], at: usize) -> Result<usize, 
     Ok(at + 2)
 }
 
-fn include(reader: &mut Reader, tokens: &[Token<'_>], at: usize) -> Result<usize, Stop>
+fn include(reader: &mut Reader, tokens: &[Token<'_>], at: usize) -> Result<usize, TokenFault>
     requires { at < length tokens.now }
     ensures { GoesPast at (length tokens.now) result }
 {
     if reader.within.is_some() {
-        return Err(Stop::Stuck(at));
+        return Err(TokenFault::Stuck(at));
     }
     let (literal, literal_at, behind) = literal_at(reader.alloc, tokens, at + 1)?;
     let (inherit, close) = inherit(tokens, behind)?;
     let number = reader.parts.len();
-    let kind = PartKind::Include {
+    let kind = FilePartKind::Include {
         literal,
         literal_at,
         inherit,
@@ -139,7 +143,11 @@ fn close(reader: &mut Reader, end: usize) -> Option<()> {
 }
 
 /// Ends the definition that is read before a token, and reads on.
-pub(crate) fn next_item(reader: &mut Reader, tokens: &[Token<'_>], at: usize) -> Result<usize, Stop>
+pub(crate) fn next_item(
+    reader: &mut Reader,
+    tokens: &[Token<'_>],
+    at: usize,
+) -> Result<usize, TokenFault>
     requires { at ≤ length tokens.now }
     ensures { GoesPast at (length tokens.now) result }
 {

@@ -19,8 +19,8 @@ mod skips;
 
 pub use annotations::annotation_end;
 pub use file_parts::{
-    DeclarationKind, Outline, OutlineDeclaration, OutlineMethod, OutlineUri, Part, PartKind, Shape,
-    Span, is_link, name_in, unquoted_name,
+    DeclarationKind, FilePart, FilePartKind, Outline, OutlineDeclaration, OutlineMethod,
+    OutlineUri, Shape, Span, is_link, name_in, unquoted_name,
 };
 pub use grouped::Grouped;
 pub use outline::{MAX_OPEN, read_outline};

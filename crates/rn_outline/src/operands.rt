@@ -2,9 +2,9 @@
 ghost use Rattle.std.specs.Prelude.{◌≡◌, ◌<◌, ◌≤◌, length, IfOk};
 ghost use Rattle.rn_text.specs.inside.Reading.{GoesPast, MayGoPast, Passed};
 
-use crate::file_parts::{PartKind, Span};
+use crate::file_parts::{FilePartKind, Span};
 use crate::items::next_item;
-use crate::outline_fault::{Stop, Wanted};
+use crate::outline_fault::{TokenFault, Wanted};
 use crate::outline_reader::{Frame, Mode, Reader};
 use crate::signs::{Sign, Word, end, sign_at, span};
 use crate::skips::{
@@ -13,7 +13,11 @@ use crate::skips::{
 use rn_text::Token;
 
 /// Reads an operand, or its front up to a bracket that has more patterns in it.
-pub(crate) fn operand(reader: &mut Reader, tokens: &[Token<'_>], at: usize) -> Result<usize, Stop>
+pub(crate) fn operand(
+    reader: &mut Reader,
+    tokens: &[Token<'_>],
+    at: usize,
+) -> Result<usize, TokenFault>
     requires { at ≤ length tokens.now }
     ensures { GoesPast at (length tokens.now) result }
 {
@@ -30,18 +34,23 @@ pub(crate) fn operand(reader: &mut Reader, tokens: &[Token<'_>], at: usize) -> R
         }
         Sign::Ident => {
             let name = span(tokens, at, at + 1);
-            reader.note(name, PartKind::Reference { name })?;
+            reader.note(name, FilePartKind::Reference { name })?;
             reader.mode = Mode::Behind;
             Ok(at + 1)
         }
         Sign::Prefixed => datatype(reader, tokens, at + 1),
         Sign::Word(word) => keyword(reader, tokens, at, word),
-        _ => Err(Stop::Lacking(at, Wanted::Pattern)),
+        _ => Err(TokenFault::Lacking(at, Wanted::Pattern)),
     }
 }
 
 /// Reads an operand that begins with a keyword, or its front up to a bracket that has more patterns in it.
-fn keyword(reader: &mut Reader, tokens: &[Token<'_>], at: usize, word: Word) -> Result<usize, Stop>
+fn keyword(
+    reader: &mut Reader,
+    tokens: &[Token<'_>],
+    at: usize,
+    word: Word,
+) -> Result<usize, TokenFault>
     requires { at < length tokens.now }
     ensures { GoesPast at (length tokens.now) result }
 {
@@ -67,12 +76,12 @@ fn keyword(reader: &mut Reader, tokens: &[Token<'_>], at: usize, word: Word) -> 
         Word::Parent => parent(reader, tokens, at),
         Word::External => external(reader, tokens, at),
         Word::Grammar => grammar(reader, tokens, at),
-        _ => Err(Stop::Lacking(at, Wanted::Pattern)),
+        _ => Err(TokenFault::Lacking(at, Wanted::Pattern)),
     }
 }
 
 /// Opens the content of an element, an attribute, `list` or `mixed`.
-fn content(reader: &mut Reader, inside: usize) -> Result<usize, Stop>
+fn content(reader: &mut Reader, inside: usize) -> Result<usize, TokenFault>
     ensures { IfOk result (λ r. r ≡ inside) }
 {
     reader.note_no_data();
@@ -81,7 +90,7 @@ fn content(reader: &mut Reader, inside: usize) -> Result<usize, Stop>
 }
 
 /// What may follow the name of a datatype: a literal makes it a value; parameters and an except may follow.
-fn datatype(reader: &mut Reader, tokens: &[Token<'_>], at: usize) -> Result<usize, Stop>
+fn datatype(reader: &mut Reader, tokens: &[Token<'_>], at: usize) -> Result<usize, TokenFault>
     requires { at ≤ length tokens.now }
     ensures { MayGoPast at (length tokens.now) result }
 {
@@ -115,24 +124,24 @@ fn except(reader: &mut Reader, tokens: &[Token<'_>], at: usize) -> usize
     }
 }
 
-fn parent(reader: &mut Reader, tokens: &[Token<'_>], at: usize) -> Result<usize, Stop>
+fn parent(reader: &mut Reader, tokens: &[Token<'_>], at: usize) -> Result<usize, TokenFault>
     requires { at < length tokens.now }
     ensures { GoesPast at (length tokens.now) result }
 {
     let end = ident(tokens, at + 1)?;
     let name = span(tokens, at + 1, end);
-    reader.note(span(tokens, at, end), PartKind::Parent { name })?;
+    reader.note(span(tokens, at, end), FilePartKind::Parent { name })?;
     reader.mode = Mode::Behind;
     Ok(end)
 }
 
-fn external(reader: &mut Reader, tokens: &[Token<'_>], at: usize) -> Result<usize, Stop>
+fn external(reader: &mut Reader, tokens: &[Token<'_>], at: usize) -> Result<usize, TokenFault>
     requires { at < length tokens.now }
     ensures { GoesPast at (length tokens.now) result }
 {
     let (literal, literal_at, behind) = literal_at(reader.alloc, tokens, at + 1)?;
     let (inherit, end) = inherit(tokens, behind)?;
-    let kind = PartKind::External {
+    let kind = FilePartKind::External {
         literal,
         literal_at,
         inherit,
@@ -143,7 +152,7 @@ fn external(reader: &mut Reader, tokens: &[Token<'_>], at: usize) -> Result<usiz
 }
 
 /// Opens a nested grammar.
-fn grammar(reader: &mut Reader, tokens: &[Token<'_>], at: usize) -> Result<usize, Stop>
+fn grammar(reader: &mut Reader, tokens: &[Token<'_>], at: usize) -> Result<usize, TokenFault>
     requires { at < length tokens.now }
     ensures { GoesPast at (length tokens.now) result }
 {
@@ -151,7 +160,7 @@ fn grammar(reader: &mut Reader, tokens: &[Token<'_>], at: usize) -> Result<usize
     let number = reader.grammars;
     let part = reader.parts.len();
     let behind = end(tokens, inside);
-    let kind = PartKind::Grammar {
+    let kind = FilePartKind::Grammar {
         number,
         inside: Span {
             from: behind,
@@ -178,7 +187,7 @@ pub(crate) fn behind_operand(
     reader: &mut Reader,
     tokens: &[Token<'_>],
     at: usize,
-) -> Result<usize, Stop>
+) -> Result<usize, TokenFault>
     requires { at ≤ length tokens.now }
     ensures { GoesPast at (length tokens.now) result }
 {
@@ -202,7 +211,7 @@ pub(crate) fn behind_operand(
 }
 
 /// Reads the end of a pattern.
-fn pattern_end(reader: &mut Reader, tokens: &[Token<'_>], at: usize) -> Result<usize, Stop>
+fn pattern_end(reader: &mut Reader, tokens: &[Token<'_>], at: usize) -> Result<usize, TokenFault>
     requires { at ≤ length tokens.now }
     ensures { GoesPast at (length tokens.now) result }
 {
@@ -213,6 +222,6 @@ fn pattern_end(reader: &mut Reader, tokens: &[Token<'_>], at: usize) -> Result<u
                 Ok(at + 1)
             }
         (Some(Frame::Body), _) => next_item(reader, tokens, at),
-        _ => Err(Stop::Stuck(at)),
+        _ => Err(TokenFault::Stuck(at)),
     }
 }

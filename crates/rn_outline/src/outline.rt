@@ -5,10 +5,10 @@ ghost use Rattle.rn_outline.specs.Outlines.{IsOutline};
 ghost use Rattle.rn_outline.specs.Spans.{AreApart, AreInOrder};
 
 use crate::declarations::declarations;
-use crate::file_parts::{Outline, OutlineMethod, Part, PartKind, Shape, Span};
+use crate::file_parts::{FilePart, FilePartKind, Outline, OutlineMethod, Shape, Span};
 use crate::items::item;
 use crate::operands::{behind_operand, operand};
-use crate::outline_fault::{OutlineFault, Stop, Wanted};
+use crate::outline_fault::{OutlineFault, TokenFault, Wanted};
 use crate::outline_reader::{Frame, Mode, Reader};
 use crate::signs::{Sign, Word, begin, end, sign_at, span};
 use crate::skips::{annotation, follow, left_brace, word};
@@ -40,7 +40,7 @@ fn bracket_too_deep(tokens: &[Token<'_>]) -> Option<usize> {
 }
 
 /// What follows the annotations that come.
-fn skip_annotations(tokens: &[Token<'_>], mut at: usize) -> Result<usize, Stop>
+fn skip_annotations(tokens: &[Token<'_>], mut at: usize) -> Result<usize, TokenFault>
     requires { at ≤ length tokens.now }
     ensures { MayGoPast at (length tokens.now) result }
 {
@@ -117,8 +117,8 @@ fn opening_at(tokens: &[Token<'_>], at: usize) -> Opening
 }
 
 /// Notes the start of a file that is a pattern.
-fn begin_pattern(reader: &mut Reader, at: Span) -> Result<(), Stop> {
-    let kind = PartKind::Start {
+fn begin_pattern(reader: &mut Reader, at: Span) -> Result<(), TokenFault> {
+    let kind = FilePartKind::Start {
         word: Span {
             from: at.from,
             to: at.from,
@@ -133,7 +133,7 @@ fn begin_pattern(reader: &mut Reader, at: Span) -> Result<(), Stop> {
 }
 
 /// Reads on at a token.
-fn step(reader: &mut Reader, tokens: &[Token<'_>], at: usize) -> Result<usize, Stop>
+fn step(reader: &mut Reader, tokens: &[Token<'_>], at: usize) -> Result<usize, TokenFault>
     requires { at ≤ length tokens.now }
     ensures { GoesPast at (length tokens.now) result }
 {
@@ -143,13 +143,13 @@ fn step(reader: &mut Reader, tokens: &[Token<'_>], at: usize) -> Result<usize, S
         Mode::Behind => behind_operand(reader, tokens, at),
         Mode::Closed => match sign_at(tokens, at) {
             Sign::Follow => follow(tokens, at + 1),
-            _ => Err(Stop::Stuck(at)),
+            _ => Err(TokenFault::Stuck(at)),
         },
     }
 }
 
 /// Reads all tokens from one on.
-fn steps(reader: &mut Reader, tokens: &[Token<'_>], from: usize) -> Result<(), Stop>
+fn steps(reader: &mut Reader, tokens: &[Token<'_>], from: usize) -> Result<(), TokenFault>
     requires { from ≤ length tokens.now }
 {
     let mut at = from;
@@ -170,17 +170,17 @@ fn finish(reader: &mut Reader, end: usize) -> bool {
 }
 
 /// Why the file may not end where its tokens, of which there are so many, do.
-fn early_end(reader: &Reader, count: usize) -> Stop {
+fn early_end(reader: &Reader, count: usize) -> TokenFault {
     match (reader.mode, reader.top()) {
-        (Mode::Operand | Mode::Excepted, _) => Stop::Lacking(count, Wanted::Pattern),
-        (_, Some(Frame::Parens { .. })) => Stop::Lacking(count, Wanted::ClosingParenthesis),
-        (_, Some(Frame::Body | Frame::Whole) | None) => Stop::Stuck(count),
-        (_, Some(_)) => Stop::Lacking(count, Wanted::ClosingBrace),
+        (Mode::Operand | Mode::Excepted, _) => TokenFault::Lacking(count, Wanted::Pattern),
+        (_, Some(Frame::Parens { .. })) => TokenFault::Lacking(count, Wanted::ClosingParenthesis),
+        (_, Some(Frame::Body | Frame::Whole) | None) => TokenFault::Stuck(count),
+        (_, Some(_)) => TokenFault::Lacking(count, Wanted::ClosingBrace),
     }
 }
 
 /// Reads the body that begins with the token of this index, and says what it is.
-fn read_body(reader: &mut Reader, tokens: &[Token<'_>], at: usize) -> Result<Shape, Stop>
+fn read_body(reader: &mut Reader, tokens: &[Token<'_>], at: usize) -> Result<Shape, TokenFault>
     requires { at ≤ length tokens.now }
 {
     let first = skip_annotations(tokens, at)?;
@@ -205,7 +205,7 @@ fn read_body(reader: &mut Reader, tokens: &[Token<'_>], at: usize) -> Result<Sha
 }
 
 /// Whether each part is within so many bytes, and begins no earlier than the one before it.
-fn are_in_order(parts: &[Part], len: usize) -> bool
+fn are_in_order(parts: &[FilePart], len: usize) -> bool
     ensures { IsTrue result → AreInOrder len 0 parts.now }
 {
     let mut rest = parts;
@@ -221,7 +221,7 @@ fn are_in_order(parts: &[Part], len: usize) -> bool
 }
 
 /// Whether the marks of parts follow one another, each within its part.
-fn are_apart(parts: &[Part]) -> bool
+fn are_apart(parts: &[FilePart]) -> bool
     ensures { IsTrue result → AreApart 0 parts.now }
 {
     let mut rest = parts;
@@ -249,7 +249,7 @@ fn ordered_outline(outline: Outline, len: usize) -> Option<Outline>
     }
 }
 
-fn read(alloc: Global, text: &str, tokens: &[Token<'_>]) -> Result<Outline, Stop>
+fn read(alloc: Global, text: &str, tokens: &[Token<'_>]) -> Result<Outline, TokenFault>
     ensures { IfOk result (λ o. IsOutline (length text.now) o) }
 {
     let (declarations, at) = declarations(alloc, tokens)?;
@@ -277,7 +277,7 @@ fn read(alloc: Global, text: &str, tokens: &[Token<'_>]) -> Result<Outline, Stop
         parts,
         grammars,
     };
-    ordered_outline(outline, to).ok_or(Stop::Stuck(tokens.len()))
+    ordered_outline(outline, to).ok_or(TokenFault::Stuck(tokens.len()))
 }
 
 /// The outline of a text with these tokens (RELAX NG Compact Syntax, 2): grammars, and patterns as files, with all that
@@ -298,14 +298,14 @@ pub fn read_outline(
     }
     match read(alloc, text, tokens) {
         Ok(outline) => Ok(outline),
-        Err(Stop::Stuck(at)) => Err(OutlineFault::Syntax {
+        Err(TokenFault::Stuck(at)) => Err(OutlineFault::Syntax {
             at: begin(tokens, at),
             wanted: None,
         }),
-        Err(Stop::Lacking(at, wanted)) => Err(OutlineFault::Syntax {
+        Err(TokenFault::Lacking(at, wanted)) => Err(OutlineFault::Syntax {
             at: begin(tokens, at),
             wanted: Some(wanted),
         }),
-        Err(Stop::Memory) => Err(OutlineFault::Memory),
+        Err(TokenFault::Memory) => Err(OutlineFault::Memory),
     }
 }

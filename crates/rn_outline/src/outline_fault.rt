@@ -67,7 +67,7 @@ impl From<AllocError> for OutlineFault {
 
 /// Why a reader of tokens stopped.
 #[derive(Clone, Copy)]
-pub(crate) enum Stop {
+pub(crate) enum TokenFault {
     /// At the token of this index, or at the end.
     Stuck(usize),
     /// There too, where this could come.
@@ -75,14 +75,14 @@ pub(crate) enum Stop {
     Memory,
 }
 
-impl From<AllocError> for Stop {
+impl From<AllocError> for TokenFault {
     fn from(_: AllocError) -> Self {
-        Stop::Memory
+        TokenFault::Memory
     }
 }
 
-impl<T: Drop> From<AllocFailed<T>> for Stop {
+impl<T: Drop> From<AllocFailed<T>> for TokenFault {
     fn from(_: AllocFailed<T>) -> Self {
-        Stop::Memory
+        TokenFault::Memory
     }
 }

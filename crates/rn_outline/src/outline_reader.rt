@@ -1,7 +1,7 @@
 // The reader of a file's parts: what is open, and what may come.
 
-use crate::file_parts::{Part, PartKind, Span};
-use crate::outline_fault::Stop;
+use crate::file_parts::{FilePart, FilePartKind, Span};
+use crate::outline_fault::TokenFault;
 use std::alloc::Global;
 
 /// What may come next.
@@ -52,7 +52,7 @@ pub(crate) enum Frame {
 #[derive(Drop)]
 pub(crate) struct Reader {
     pub(crate) alloc: Global,
-    pub(crate) parts: Vec<Part>,
+    pub(crate) parts: Vec<FilePart>,
     pub(crate) frames: Vec<Frame>,
     pub(crate) mode: Mode,
     /// The index of the grammar that is read; 0 is the file's own.
@@ -92,15 +92,15 @@ impl Reader {
     }
 
     /// Opens a frame.
-    pub(crate) fn open(&mut self, frame: Frame, mode: Mode) -> Result<(), Stop> {
+    pub(crate) fn open(&mut self, frame: Frame, mode: Mode) -> Result<(), TokenFault> {
         self.frames.push(frame)?;
         self.mode = mode;
         Ok(())
     }
 
     /// Notes a part of the grammar that is read.
-    pub(crate) fn note(&mut self, at: Span, kind: PartKind) -> Result<(), Stop> {
-        let part = Part {
+    pub(crate) fn note(&mut self, at: Span, kind: FilePartKind) -> Result<(), TokenFault> {
+        let part = FilePart {
             at,
             grammar: self.grammar,
             in_except: self.is_in_except(),
@@ -121,7 +121,7 @@ impl Reader {
     }
 
     /// Begins a body of the definition that was noted last.
-    pub(crate) fn begin_body(&mut self, frame: Frame) -> Result<(), Stop> {
+    pub(crate) fn begin_body(&mut self, frame: Frame) -> Result<(), TokenFault> {
         self.body = self.parts.len().checked_sub(1);
         self.open(frame, Mode::Operand)
     }
@@ -145,9 +145,9 @@ impl Reader {
     }
 }
 
-fn mark_no_data(kind: &mut PartKind) {
+fn mark_no_data(kind: &mut FilePartKind) {
     match kind {
-        PartKind::Define { only_data, .. } | PartKind::Start { only_data, .. } => {
+        FilePartKind::Define { only_data, .. } | FilePartKind::Start { only_data, .. } => {
             *only_data = false;
         }
         _ => {}
@@ -155,10 +155,10 @@ fn mark_no_data(kind: &mut PartKind) {
 }
 
 /// Ends what is inside a part at a byte; what is inside a grammar ends before its brace.
-fn end_inside(kind: &mut PartKind, end: usize) {
+fn end_inside(kind: &mut FilePartKind, end: usize) {
     match kind {
-        PartKind::Define { body, .. } | PartKind::Start { body, .. } => body.to = end,
-        PartKind::Grammar { inside, .. } => inside.to = end.saturating_sub(1),
+        FilePartKind::Define { body, .. } | FilePartKind::Start { body, .. } => body.to = end,
+        FilePartKind::Grammar { inside, .. } => inside.to = end.saturating_sub(1),
         _ => {}
     }
 }

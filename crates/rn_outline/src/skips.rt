@@ -4,13 +4,13 @@ ghost use Rattle.rn_text.specs.Reading.{Advanced};
 ghost use Rattle.rn_text.specs.inside.Reading.{GoesPast, MayGoPast, Passed};
 
 use crate::file_parts::{OutlineMethod, Span};
-use crate::outline_fault::{Stop, Wanted};
+use crate::outline_fault::{TokenFault, Wanted};
 use crate::signs::{Sign, Word, sign_at, span};
 use rn_text::{Kind, Token, literal};
 use std::alloc::Global;
 
 /// What follows a `[`, up to its `]`.
-fn closed_brackets(tokens: &[Token<'_>], mut at: usize) -> Result<usize, Stop>
+fn closed_brackets(tokens: &[Token<'_>], mut at: usize) -> Result<usize, TokenFault>
     requires { at ≤ length tokens.now }
     ensures { GoesPast at (length tokens.now) result }
 {
@@ -29,25 +29,25 @@ fn closed_brackets(tokens: &[Token<'_>], mut at: usize) -> Result<usize, Stop>
                 depth += 1;
             }
             Sign::LeftBrace | Sign::RightBrace | Sign::LeftParen | Sign::RightParen | Sign::End =>
-                return Err(Stop::Stuck(at)),
+                return Err(TokenFault::Stuck(at)),
             _ => at += 1,
         }
     }
 }
 
 /// What follows `[ .. ]` (compact syntax, section 2, annotations).
-pub(crate) fn annotation(tokens: &[Token<'_>], at: usize) -> Result<usize, Stop>
+pub(crate) fn annotation(tokens: &[Token<'_>], at: usize) -> Result<usize, TokenFault>
     requires { at ≤ length tokens.now }
     ensures { GoesPast at (length tokens.now) result }
 {
     match sign_at(tokens, at) {
         Sign::LeftBracket => closed_brackets(tokens, at + 1),
-        _ => Err(Stop::Stuck(at)),
+        _ => Err(TokenFault::Stuck(at)),
     }
 }
 
 /// What follows an annotation, if one comes.
-pub(crate) fn skip_annotation(tokens: &[Token<'_>], at: usize) -> Result<usize, Stop>
+pub(crate) fn skip_annotation(tokens: &[Token<'_>], at: usize) -> Result<usize, TokenFault>
     requires { at ≤ length tokens.now }
     ensures { MayGoPast at (length tokens.now) result }
 {
@@ -58,19 +58,19 @@ pub(crate) fn skip_annotation(tokens: &[Token<'_>], at: usize) -> Result<usize, 
 }
 
 /// What follows a name and `[ .. ]`, after `>>`.
-pub(crate) fn follow(tokens: &[Token<'_>], at: usize) -> Result<usize, Stop>
+pub(crate) fn follow(tokens: &[Token<'_>], at: usize) -> Result<usize, TokenFault>
     requires { at ≤ length tokens.now }
     ensures { GoesPast at (length tokens.now) result }
 {
     match sign_at(tokens, at) {
         Sign::Ident | Sign::Word(_) | Sign::Prefixed => annotation(tokens, at + 1),
-        _ => Err(Stop::Stuck(at)),
+        _ => Err(TokenFault::Stuck(at)),
     }
 }
 
 /// What follows the `{` of an element or an attribute, after which the name class comes (compact syntax, section 2,
 /// nameClass).
-pub(crate) fn name_class(tokens: &[Token<'_>], mut at: usize) -> Result<usize, Stop>
+pub(crate) fn name_class(tokens: &[Token<'_>], mut at: usize) -> Result<usize, TokenFault>
     requires { at ≤ length tokens.now }
     ensures { GoesPast at (length tokens.now) result }
 {
@@ -97,9 +97,9 @@ pub(crate) fn name_class(tokens: &[Token<'_>], mut at: usize) -> Result<usize, S
                 depth -= 1;
             }
             Sign::LeftBrace if is_read && depth == 0 => return Ok(at + 1),
-            _ if !is_read => return Err(Stop::Lacking(at, Wanted::NameClass)),
-            _ if depth == 0 => return Err(Stop::Lacking(at, Wanted::Brace)),
-            _ => return Err(Stop::Stuck(at)),
+            _ if !is_read => return Err(TokenFault::Lacking(at, Wanted::NameClass)),
+            _ if depth == 0 => return Err(TokenFault::Lacking(at, Wanted::Brace)),
+            _ => return Err(TokenFault::Stuck(at)),
         }
     }
 }
@@ -115,7 +115,7 @@ fn is_right_brace(tokens: &[Token<'_>], at: usize) -> bool
 }
 
 /// What follows a word, `=` and a literal.
-fn param(tokens: &[Token<'_>], at: usize) -> Result<usize, Stop>
+fn param(tokens: &[Token<'_>], at: usize) -> Result<usize, TokenFault>
     requires { at ≤ length tokens.now }
     ensures { GoesPast at (length tokens.now) result }
 {
@@ -126,7 +126,7 @@ fn param(tokens: &[Token<'_>], at: usize) -> Result<usize, Stop>
 }
 
 /// What follows the parameters of a datatype, after their `{`.
-pub(crate) fn params(tokens: &[Token<'_>], mut at: usize) -> Result<usize, Stop>
+pub(crate) fn params(tokens: &[Token<'_>], mut at: usize) -> Result<usize, TokenFault>
     requires { at ≤ length tokens.now }
     ensures { GoesPast at (length tokens.now) result }
 {
@@ -137,65 +137,65 @@ pub(crate) fn params(tokens: &[Token<'_>], mut at: usize) -> Result<usize, Stop>
 }
 
 /// What follows a name or a keyword.
-pub(crate) fn word(tokens: &[Token<'_>], at: usize) -> Result<usize, Stop>
+pub(crate) fn word(tokens: &[Token<'_>], at: usize) -> Result<usize, TokenFault>
     requires { at ≤ length tokens.now }
     ensures { GoesPast at (length tokens.now) result }
 {
     match sign_at(tokens, at) {
         Sign::Ident | Sign::Word(_) => Ok(at + 1),
-        _ => Err(Stop::Lacking(at, Wanted::Name)),
+        _ => Err(TokenFault::Lacking(at, Wanted::Name)),
     }
 }
 
 /// What follows a name that is no keyword.
-pub(crate) fn ident(tokens: &[Token<'_>], at: usize) -> Result<usize, Stop>
+pub(crate) fn ident(tokens: &[Token<'_>], at: usize) -> Result<usize, TokenFault>
     requires { at ≤ length tokens.now }
     ensures { GoesPast at (length tokens.now) result }
 {
     match sign_at(tokens, at) {
         Sign::Ident => Ok(at + 1),
-        _ => Err(Stop::Lacking(at, Wanted::Name)),
+        _ => Err(TokenFault::Lacking(at, Wanted::Name)),
     }
 }
 
 /// What follows `=`.
-pub(crate) fn plain_assign(tokens: &[Token<'_>], at: usize) -> Result<usize, Stop>
+pub(crate) fn plain_assign(tokens: &[Token<'_>], at: usize) -> Result<usize, TokenFault>
     requires { at ≤ length tokens.now }
     ensures { GoesPast at (length tokens.now) result }
 {
     match sign_at(tokens, at) {
         Sign::Assign(method) => match method {
             OutlineMethod::Plain => Ok(at + 1),
-            _ => Err(Stop::Lacking(at, Wanted::Equals)),
+            _ => Err(TokenFault::Lacking(at, Wanted::Equals)),
         },
-        _ => Err(Stop::Lacking(at, Wanted::Equals)),
+        _ => Err(TokenFault::Lacking(at, Wanted::Equals)),
     }
 }
 
 /// What follows `{`.
-pub(crate) fn left_brace(tokens: &[Token<'_>], at: usize) -> Result<usize, Stop>
+pub(crate) fn left_brace(tokens: &[Token<'_>], at: usize) -> Result<usize, TokenFault>
     requires { at ≤ length tokens.now }
     ensures { GoesPast at (length tokens.now) result }
 {
     match sign_at(tokens, at) {
         Sign::LeftBrace => Ok(at + 1),
-        _ => Err(Stop::Lacking(at, Wanted::Brace)),
+        _ => Err(TokenFault::Lacking(at, Wanted::Brace)),
     }
 }
 
 /// What follows a segment.
-fn segment(tokens: &[Token<'_>], at: usize) -> Result<usize, Stop>
+fn segment(tokens: &[Token<'_>], at: usize) -> Result<usize, TokenFault>
     requires { at ≤ length tokens.now }
     ensures { GoesPast at (length tokens.now) result }
 {
     match sign_at(tokens, at) {
         Sign::Segment => Ok(at + 1),
-        _ => Err(Stop::Lacking(at, Wanted::Literal)),
+        _ => Err(TokenFault::Lacking(at, Wanted::Literal)),
     }
 }
 
 /// What follows a literal: segments with `~` between each two (compact syntax, section 2, literal).
-pub(crate) fn segments(tokens: &[Token<'_>], at: usize) -> Result<usize, Stop>
+pub(crate) fn segments(tokens: &[Token<'_>], at: usize) -> Result<usize, TokenFault>
     requires { at ≤ length tokens.now }
     ensures { GoesPast at (length tokens.now) result }
 {
@@ -207,7 +207,7 @@ pub(crate) fn segments(tokens: &[Token<'_>], at: usize) -> Result<usize, Stop>
 }
 
 /// `[ "inherit" "=" word ]`: the word, and what follows it.
-pub(crate) fn inherit(tokens: &[Token<'_>], at: usize) -> Result<(Option<Span>, usize), Stop>
+pub(crate) fn inherit(tokens: &[Token<'_>], at: usize) -> Result<(Option<Span>, usize), TokenFault>
     requires { at ≤ length tokens.now }
     ensures { IfOk result (λ r. Passed at r.1 (length tokens.now)) }
 {
@@ -222,7 +222,7 @@ pub(crate) fn inherit(tokens: &[Token<'_>], at: usize) -> Result<(Option<Span>, 
 }
 
 /// The text of the literal that these tokens are.
-fn joined_segments(alloc: Global, tokens: &[Token<'_>]) -> Result<String, Stop> {
+fn joined_segments(alloc: Global, tokens: &[Token<'_>]) -> Result<String, TokenFault> {
     let mut text = String::new(alloc);
     for token in tokens {
         if token.kind == Kind::Segment {
@@ -238,7 +238,7 @@ pub(crate) fn literal_at(
     alloc: Global,
     tokens: &[Token<'_>],
     at: usize,
-) -> Result<(String, Span, usize), Stop>
+) -> Result<(String, Span, usize), TokenFault>
     requires { at ≤ length tokens.now }
     ensures { IfOk result (λ r. Advanced at r.2 (length tokens.now)) }
 {

@@ -2,9 +2,9 @@
 use Rattle.std.specs.Prelude.{◌≡◌, ℕ, ◌≤◌, List, [], ◌∷◌, ◌++◌, Option, Some, None, codes, decimal, nat_lt, slice_get, string_bytes, vec_len, if◌then◌else◌}
 use Rattle.std.specs.Borrow.{Bor}
 use Rattle.rn_files.specs.TextLines.{IsPosition}
-use Rattle.rn_files.specs.declared.sources.Written.{Written}
-use Rattle.rn_translate.specs.Places.{origin_of}
-use Rattle.rn_translate.specs.declared.translated.Places.{Places}
+use Rattle.rn_files.specs.declared.sources.XmlSource.{XmlSource}
+use Rattle.rn_translate.specs.Origins.{origin_of}
+use Rattle.rn_translate.specs.declared.translated.Origins.{Origins}
 use Rattle.rn_report.specs.Limits.{max_told}
 use Rattle.rn_report.specs.PrintedCharacters.{head, printed}
 use Rattle.rn_report.specs.declared.report.Colours.{Colours}
@@ -20,19 +20,19 @@ IsPlaceIn path text at place = (line column : ℕ) × IsPosition text at line co
     × (place ≡ path ++ (codes ":" ++ (decimal line ++ (codes ":" ++ decimal column))))
 
 -- what is written where a text was made of it, if it was; else the text
-abbrev pub written_for : List ℕ → Option (Bor Written) → List ℕ
+abbrev pub written_for : List ℕ → Option (Bor XmlSource) → List ℕ
 written_for text None = text
 written_for text (Some w) = string_bytes w.now.text
 
 -- the byte of a document for which a byte of the text stands; where there is no text, it is a byte of the document
-abbrev pub byte_in : ℕ → Option Places → ℕ
+abbrev pub byte_in : ℕ → Option Origins → ℕ
 byte_in at None = at
 byte_in at (Some places) = origin_of places.items.items at
 
 -- the byte of what is written for which a byte of the text stands
-abbrev pub byte_for : ℕ → Option (Bor Written) → ℕ
+abbrev pub byte_for : ℕ → Option (Bor XmlSource) → ℕ
 byte_for at None = at
-byte_for at (Some w) = byte_in at w.now.places
+byte_for at (Some w) = byte_in at w.now.origins
 
 -- what is written in a file
 abbrev pub written_text : Page → List ℕ

@@ -11,7 +11,7 @@ pub const ENCODING: &str = "the file is not UTF-8 from here on";
 /// The sentence on a request for memory that was refused.
 pub const MEMORY: &str = "out of memory";
 
-/// A sentence that names a limit: what stands before it, the number with its digits in groups, and what stands behind.
+/// A sentence that names a limit: what is before it, the number with its digits in groups, and what is after it.
 pub fn limit_sentence(
     alloc: Global,
     before: &str,

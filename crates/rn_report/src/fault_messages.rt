@@ -1,19 +1,29 @@
 // The faults of reading, lifting and gathering, as messages.
 use crate::check_sentences::{ENCODING, MEMORY, deep_sentence, limit_sentence};
+use crate::link_sentences::{catalog_sentence, far_catalog_sentence, link_kind, link_sentence};
 use crate::message_kinds::MessageKind;
 use crate::near_names::NearestName;
-use crate::report::{MAX_TOLD, Message, Page, Spot, shown_name, shown_place, text_of_page};
+use crate::report::{MAX_TOLD, Message, Page, Spot, shown_name, text_of_page};
 use crate::token_sentences::{lexical_sentence, name_at, unexpected_token};
 use rn_files::{
-    Asked, FaultPlace, FileFault, MAX_SOURCES, SourceFault, SourceFaultKind, SourceFile,
+    Asked, FaultPlace, LinkFault, MAX_SOURCES, SourceFault, SourceFaultKind, SourceFile,
 };
 use rn_lift::{Lifted, MAX_EXCEPTS, MAX_GROWTH};
 use rn_modset::{AddFault, MAX_CONTRIBUTIONS, MAX_NAME, MAX_TEXT};
-use rn_outline::{PartKind, name_in};
+use rn_outline::{FilePartKind, name_in};
 use rn_scopes::{LiftFault, LiftFaultKind, MAX_PLACES};
 use rn_translate::RngFaultKind;
 use rn_xml::{FaultSentence, XmlFault, XmlFaultKind};
 use std::alloc::{AllocError, Global};
+
+/// What is said of a text in UTF-16.
+const UTF16: &str = "the file is in UTF-16, and only UTF-8 is read";
+
+/// What is said of a catalog that led to itself.
+const CATALOG_LOOP: &str = "the catalog leads back to itself by nextCatalog";
+
+/// What is said of sources that don't keep what is promised of them.
+const UNSOUND: &str = "what was read of the files does not fit together";
 
 /// What is said where a file in the XML syntax includes a pattern.
 const INCLUDED_PATTERN_XML: &str =
@@ -22,11 +32,11 @@ const INCLUDED_PATTERN_XML: &str =
 /// What is said where a file in the XML syntax refers to a grammar that is not around.
 const NO_PARENT_XML: &str = "there is no grammar around this one that parentRef could mean";
 
-/// Where a fault of reading is told; nowhere where it is about a word or a folder.
+/// Where a fault of reading is told; nowhere where it is about a word, a folder or catalogs.
 pub fn reading_spot(place: FaultPlace) -> Option<Spot> {
     match place {
         FaultPlace::Text { file, at } => Some(Spot { file, at }),
-        FaultPlace::Word(_) | FaultPlace::Root | FaultPlace::Current => None,
+        FaultPlace::Word(_) | FaultPlace::Root | FaultPlace::Current | FaultPlace::Catalogs => None,
     }
 }
 
@@ -39,7 +49,7 @@ pub fn reading_message(
 ) -> Result<Message, AllocError> {
     let sentence = reading_sentence(alloc, pages, fault)?;
     let sentence = match fault.place {
-        FaultPlace::Text { .. } => sentence,
+        FaultPlace::Text { .. } | FaultPlace::Catalogs => sentence,
         FaultPlace::Word(number) => {
             let word = asked.files.get(number).map_or("-", |word| word.as_str());
             sentence_about(alloc, word, sentence.as_str())?
@@ -54,24 +64,15 @@ pub fn reading_message(
 /// What a message on a fault of reading is about.
 fn reading_kind(kind: &SourceFaultKind) -> MessageKind {
     match kind {
-        SourceFaultKind::File(_)
-        | SourceFaultKind::Target { .. }
-        | SourceFaultKind::Mapped { .. } => MessageKind::Unreadable,
-        SourceFaultKind::Reference(_)
-        | SourceFaultKind::Unmapped(_)
-        | SourceFaultKind::Elsewhere { .. }
-        | SourceFaultKind::Delegated { .. }
-        | SourceFaultKind::Outside => MessageKind::Reference,
-        SourceFaultKind::Loop(_) => MessageKind::FileLoop,
+        SourceFaultKind::Link { fault, .. } => link_kind(*fault),
+        SourceFaultKind::FarCatalog(_) => MessageKind::Reference,
+        SourceFaultKind::Loop(_) | SourceFaultKind::CatalogLoop => MessageKind::FileLoop,
         SourceFaultKind::Encoding | SourceFaultKind::Utf16 => MessageKind::Encoding,
         SourceFaultKind::Lexical => MessageKind::Lexical,
-        SourceFaultKind::Syntax(_) => MessageKind::Syntax,
+        SourceFaultKind::Syntax(_) | SourceFaultKind::Catalog(_) => MessageKind::Syntax,
         SourceFaultKind::Document(kind) => document_kind(*kind),
         SourceFaultKind::Schema(kind) => schema_kind(kind),
-        SourceFaultKind::Deep | SourceFaultKind::Count | SourceFaultKind::Name => {
-            MessageKind::Limit
-        }
-        SourceFaultKind::Twice => MessageKind::Duplicate,
+        SourceFaultKind::Deep | SourceFaultKind::ManyCatalogs => MessageKind::Limit,
         SourceFaultKind::Unsound => MessageKind::Internal,
     }
 }
@@ -101,103 +102,41 @@ fn sentence_about(alloc: Global, what: &str, sentence: &str) -> Result<String, A
     format!(in alloc; "{what}: {sentence}")
 }
 
+/// What is wrong, where a fault of reading is.
 fn reading_sentence(
     alloc: Global,
     pages: &[Page<'_>],
     fault: &SourceFault,
 ) -> Result<String, AllocError> {
-    let sentence = match &fault.kind {
-        SourceFaultKind::File(fault) => return format!(in alloc; "{fault}"),
-        SourceFaultKind::Target { path, fault } => {
-            return target_sentence(alloc, path.as_str(), *fault);
+    let place = fault.place;
+    match &fault.kind {
+        SourceFaultKind::Link { fault, tried } => link_sentence(alloc, place, *fault, tried),
+        SourceFaultKind::Document(kind) => document_sentence(alloc, pages, place, *kind),
+        SourceFaultKind::Schema(kind) => format!(in alloc; "{kind}"),
+        SourceFaultKind::Catalog(kind) => catalog_sentence(alloc, pages, place, *kind),
+        SourceFaultKind::FarCatalog(uri) => far_catalog_sentence(alloc, uri.as_str()),
+        SourceFaultKind::ManyCatalogs => {
+            limit_sentence(alloc, "there are more than", MAX_SOURCES, "catalogs")
         }
-        SourceFaultKind::Mapped { uri, path, fault } => {
-            return mapped_sentence(alloc, uri.as_str(), path.as_str(), *fault);
-        }
-        SourceFaultKind::Elsewhere { uri, target } => {
-            return elsewhere_sentence(alloc, uri.as_str(), target.as_str());
-        }
-        SourceFaultKind::Delegated { uri, catalog } => {
-            return delegated_sentence(alloc, uri.as_str(), catalog.as_str());
-        }
-        SourceFaultKind::Reference(fault) => return format!(in alloc; "{fault}"),
-        SourceFaultKind::Document(kind) => return document_sentence(
-            alloc,
-            pages,
-            fault.place,
-            *kind,
-        ),
-        SourceFaultKind::Schema(kind) => return format!(in alloc; "{kind}"),
-        SourceFaultKind::Unmapped(uri) => return unmapped_sentence(alloc, uri.as_str()),
+        SourceFaultKind::Loop(files) => loop_sentence(alloc, pages, files.as_slice()),
+        SourceFaultKind::Deep => deep_sentence(alloc),
         SourceFaultKind::Syntax(wanted) => {
-            let (text, at) = text_at(pages, fault.place);
-            return unexpected_token(alloc, text, at, *wanted);
+            let (text, at) = text_at(pages, place);
+            unexpected_token(alloc, text, at, *wanted)
         }
         SourceFaultKind::Lexical => {
-            let (text, at) = text_at(pages, fault.place);
-            lexical_sentence(text, at)
+            let (text, at) = text_at(pages, place);
+            String::from_str(alloc, lexical_sentence(text, at))
         }
-        SourceFaultKind::Utf16 => "the file is in UTF-16, and only UTF-8 is read",
-        SourceFaultKind::Loop(files) => return loop_sentence(alloc, pages, files.as_slice()),
-        SourceFaultKind::Deep => return deep_sentence(alloc),
-        SourceFaultKind::Count => return limit_sentence(
-            alloc,
-            "there are more than",
-            MAX_SOURCES,
-            "files",
-        ),
-        SourceFaultKind::Name => return file_name_sentence(alloc),
-        SourceFaultKind::Encoding => ENCODING,
-        SourceFaultKind::Outside => "the file is not below the root folder",
-        SourceFaultKind::Twice => "another file has the same name",
-        SourceFaultKind::Unsound => "what was read of the files does not fit together",
-    };
-    String::from_str(alloc, sentence)
-}
-
-/// The sentence on a file to which a reference leads and that can't be read.
-fn target_sentence(alloc: Global, path: &str, fault: FileFault) -> Result<String, AllocError> {
-    let path = shown_place(alloc, path)?;
-    format!(in alloc; "{path}: {fault}")
-}
-
-/// The sentence on a file to which a map leads and that can't be read.
-fn mapped_sentence(
-    alloc: Global,
-    uri: &str,
-    path: &str,
-    fault: FileFault,
-) -> Result<String, AllocError> {
-    let (uri, path) = (shown_place(alloc, uri)?, shown_place(alloc, path)?);
-    format!(in alloc; "{path}: {fault}; {uri} leads there")
-}
-
-/// The sentence on a URI from which a catalog leads to what is no file.
-fn elsewhere_sentence(alloc: Global, uri: &str, target: &str) -> Result<String, AllocError> {
-    let (uri, target) = (shown_place(alloc, uri)?, shown_place(alloc, target)?);
-    format!(in alloc; "a catalog leads from {uri} to {target}, and nothing is fetched")
-}
-
-/// The sentence on a URI that a catalog leaves to another one.
-fn delegated_sentence(alloc: Global, uri: &str, catalog: &str) -> Result<String, AllocError> {
-    let (uri, catalog) = (shown_place(alloc, uri)?, shown_place(alloc, catalog)?);
-    format!(in alloc; "a catalog leaves {uri} to {catalog}, which must be given by --catalog")
-}
-
-/// The sentence on a URI that no map knows.
-fn unmapped_sentence(alloc: Global, uri: &str) -> Result<String, AllocError> {
-    let uri = shown_place(alloc, uri)?;
-    format!(in alloc; "no map says where {uri} lies")
-}
-
-/// The sentence on a file whose module's name is too long.
-fn file_name_sentence(alloc: Global) -> Result<String, AllocError> {
-    let before = "the name of the file, below the root folder, is longer than";
-    limit_sentence(alloc, before, MAX_NAME, "bytes")
+        SourceFaultKind::Encoding => String::from_str(alloc, ENCODING),
+        SourceFaultKind::Utf16 => String::from_str(alloc, UTF16),
+        SourceFaultKind::CatalogLoop => String::from_str(alloc, CATALOG_LOOP),
+        SourceFaultKind::Unsound => String::from_str(alloc, UNSOUND),
+    }
 }
 
 /// What is wrong with a document.
-fn document_sentence(
+pub(crate) fn document_sentence(
     alloc: Global,
     pages: &[Page<'_>],
     place: FaultPlace,
@@ -256,7 +195,10 @@ fn push_path(sentence: &mut String, pages: &[Page<'_>], file: usize) -> Result<(
 pub fn is_unread(fault: &SourceFault) -> bool {
     matches!(
         &fault.kind,
-        SourceFaultKind::File(_) | SourceFaultKind::Target { .. } | SourceFaultKind::Mapped { .. }
+        SourceFaultKind::Link {
+            fault: LinkFault::File(_),
+            ..
+        }
     )
 }
 
@@ -339,7 +281,7 @@ fn offer_names<'f>(
     nearest: &mut NearestName<'f>,
 ) -> Result<(), AllocError> {
     for part in &file.outline.parts {
-        if let PartKind::Define { name: defined, .. } = &part.kind {
+        if let FilePartKind::Define { name: defined, .. } = &part.kind {
             nearest.offer(alloc, name, name_in(file.text.as_str(), *defined))?;
         }
     }
@@ -392,7 +334,7 @@ fn lift_sentence(alloc: Global, kind: LiftFaultKind) -> Result<String, AllocErro
     String::from_str(alloc, sentence)
 }
 
-/// The message of a module, by its number, that can't be added to the set. Refused only for want of memory.
+/// The message of a module, by its number, that can't be added to the set.
 pub fn set_message(
     alloc: Global,
     lifted: &Lifted,

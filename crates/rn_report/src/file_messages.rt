@@ -69,13 +69,12 @@ pub fn lift_messages(
     let pages = source_pages(alloc, files)?;
     let mut faults = vec![in alloc; FoundFault::Lift { files, fault }]?;
     gather_meanings(alloc, pages.as_slice(), &mut faults)?;
-    let asked = Asked {
-        files: &[],
-        root: None,
-        maps: &[],
-        input: None,
-    };
-    messages_in_order(alloc, &asked, pages.as_slice(), faults.as_slice())
+    messages_in_order(
+        alloc,
+        &Asked::nothing(),
+        pages.as_slice(),
+        faults.as_slice(),
+    )
 }
 
 /// Adds the faults of what the texts mean.

@@ -15,7 +15,7 @@ pub enum Format {
     Json,
 }
 
-/// What is told, as [`message_lines`] or [`message_objects`] writes it. Refused only for want of memory.
+/// What is told, as [`message_lines`] or [`message_objects`] writes it.
 pub fn message_text(
     alloc: Global,
     pages: &[Page<'_>],

@@ -17,7 +17,7 @@ pub struct Lacks {
     pub defined: Vec<String>,
 }
 
-/// What the modules define and lack (RELAX NG 2001, 4.18). Refused only for want of memory.
+/// What the modules define and lack (RELAX NG 2001, 4.18).
 pub fn lacks_of(alloc: Global, lifted: &Lifted) -> Result<Lacks, AllocError> {
     let sites = sites_of(alloc, lifted)?;
     let instances = instances(alloc, &sites)?;

@@ -4,10 +4,11 @@
 //! Of the faults that are found, [`MAX_TOLD`] are told and the others counted. A [`Message`] is a sentence at a byte of
 //! a file, and [`message_lines`] makes lines of messages, with the line of the file and a caret. Places come from what
 //! the modules are made of: a module is read again, and each place in it leads back to the file that it comes from.
+//!
+//! An `AllocError` says that memory ran out. It is the only error unless said otherwise.
 #![tactic(auto)]
 
 mod brought;
-mod catalog_messages;
 mod check_sentences;
 mod cursor;
 mod defined;
@@ -19,6 +20,7 @@ mod further_refusals;
 mod general_sentences;
 mod json_messages;
 mod lacks;
+mod link_sentences;
 mod loop_sites;
 mod message_kinds;
 mod near_names;
@@ -31,7 +33,6 @@ mod shown_lines;
 mod sites;
 mod token_sentences;
 
-pub use catalog_messages::{catalog_text, is_unread_catalog};
 pub use fault_messages::{is_unread, set_message};
 pub use file_messages::{lift_messages, reading_messages};
 pub use formats::{Format, message_text};

@@ -15,7 +15,7 @@ pub enum MessageKind {
     Encoding,
     /// A text has what is no token.
     Lexical,
-    /// A token can't stand where it is.
+    /// A token isn't allowed where it is.
     Syntax,
     /// A prefix is not declared, or may not be declared so; or there is a second default namespace.
     Prefix,

@@ -30,7 +30,7 @@ struct Visit {
 
 /// The definitions that take part in the schema of the modules, each place once for each name that it has there, in the
 /// order in which they are combined (RELAX NG 2001, 4.17): as they stand in the texts, with what is included in place of
-/// the include. Modules that have no schema may have any of their definitions here. Refused only for want of memory.
+/// the include. Modules that have no schema may have any of their definitions here.
 pub fn definition_places(
     alloc: Global,
     files: &[SourceFile],

@@ -7,7 +7,7 @@ ghost use Rattle.rn_report.specs.PrintedCharacters.{colour, head, is_hidden, pai
 
 use crate::message_kinds::MessageKind;
 use crate::shown_lines::push_source;
-use rn_files::{Attempt, SourceFile, Written, position};
+use rn_files::{Attempt, SourceFile, XmlSource, position};
 use std::alloc::{AllocError, Global};
 use unicode::properties::GeneralCategory;
 
@@ -88,7 +88,7 @@ impl Messages {
         }
     }
 
-    /// One message. Refused only for want of memory.
+    /// One message.
     pub fn of_message(alloc: Global, message: Message) -> Result<Messages, AllocError>
         ensures { IfOk result IsFew }
     {
@@ -123,7 +123,7 @@ pub struct Page<'a> {
     /// The text of the file, or a front of the text; of a file in the XML syntax the text that was made of it.
     pub text: &'a str,
     /// What is written in the file, if it is in the XML syntax.
-    pub written: Option<&'a Written>,
+    pub written: Option<&'a XmlSource>,
 }
 
 impl<'a> Page<'a> {
@@ -188,7 +188,7 @@ pub(crate) fn is_xml_page(pages: &[Page<'_>], number: usize) -> bool {
     pages.get(number).is_some_and(|page| page.is_xml())
 }
 
-/// The sources as messages show them. Refused only for want of memory.
+/// The sources as messages show them.
 pub fn source_pages(alloc: Global, files: &[SourceFile]) -> Result<Vec<Page<'_>>, AllocError> {
     let mut pages = Vec::new(alloc);
     for file in files {
@@ -197,7 +197,7 @@ pub fn source_pages(alloc: Global, files: &[SourceFile]) -> Result<Vec<Page<'_>>
     Ok(pages)
 }
 
-/// Files as far as they were read, as messages show them. Refused only for want of memory.
+/// Files as far as they were read, as messages show them.
 pub fn attempt_pages(alloc: Global, files: &[Attempt]) -> Result<Vec<Page<'_>>, AllocError> {
     let mut pages = Vec::new(alloc);
     for file in files {

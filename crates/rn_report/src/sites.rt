@@ -3,7 +3,7 @@ use crate::outside_names::outside_names;
 use crate::report::Spot;
 use rn_assemble::Key;
 use rn_lift::Lifted;
-use rn_outline::{OutlineFault, OutlineMethod, Part, PartKind, name_in, read_outline};
+use rn_outline::{FilePart, FilePartKind, OutlineFault, OutlineMethod, name_in, read_outline};
 use rn_text::{TextFault, tokens};
 use std::alloc::{AllocError, Global};
 
@@ -22,7 +22,7 @@ pub struct Overriding {
 #[derive(Debug, Drop)]
 pub struct ModuleSites {
     /// The definitions, references and includes of the module, in the order of its text.
-    pub parts: Vec<Part>,
+    pub parts: Vec<FilePart>,
     /// What the includes of the module override, in the order of includes and keys.
     pub overrides: Vec<Overriding>,
     /// Where names begin that are outside elements, in order.
@@ -56,42 +56,42 @@ pub fn name_of_key(key: &Key) -> &str {
 }
 
 /// The key that a part defines, where it is a definition.
-pub fn key_of<'a>(text: &'a str, part: &Part) -> Option<&'a str> {
+pub fn key_of<'a>(text: &'a str, part: &FilePart) -> Option<&'a str> {
     match &part.kind {
-        PartKind::Define { name, .. } => Some(name_in(text, *name)),
-        PartKind::Start { .. } => Some(""),
+        FilePartKind::Define { name, .. } => Some(name_in(text, *name)),
+        FilePartKind::Start { .. } => Some(""),
         _ => None,
     }
 }
 
 /// How a definition is combined.
-pub fn method_of(part: &Part) -> Option<OutlineMethod> {
+pub fn method_of(part: &FilePart) -> Option<OutlineMethod> {
     match &part.kind {
-        PartKind::Define { method, .. } | PartKind::Start { method, .. } => Some(*method),
+        FilePartKind::Define { method, .. } | FilePartKind::Start { method, .. } => Some(*method),
         _ => None,
     }
 }
 
 /// The number of the part that is the include of a definition that overrides.
-pub fn include_around(part: &Part) -> Option<usize> {
+pub fn include_around(part: &FilePart) -> Option<usize> {
     match &part.kind {
-        PartKind::Define { within, .. } | PartKind::Start { within, .. } => *within,
+        FilePartKind::Define { within, .. } | FilePartKind::Start { within, .. } => *within,
         _ => None,
     }
 }
 
 /// The name that a part refers to, and where it begins.
-pub fn use_of<'a>(text: &'a str, part: &Part) -> Option<(&'a str, usize)> {
+pub fn use_of<'a>(text: &'a str, part: &FilePart) -> Option<(&'a str, usize)> {
     match &part.kind {
-        PartKind::Reference { name } => Some((name_in(text, *name), name.from)),
+        FilePartKind::Reference { name } => Some((name_in(text, *name), name.from)),
         _ => None,
     }
 }
 
 /// The name of the module that a part includes.
-fn include_of(part: &Part) -> Option<&str> {
+fn include_of(part: &FilePart) -> Option<&str> {
     match &part.kind {
-        PartKind::Include { literal, .. } => Some(literal.as_str()),
+        FilePartKind::Include { literal, .. } => Some(literal.as_str()),
         _ => None,
     }
 }
@@ -129,7 +129,7 @@ fn module_sites(alloc: Global, text: &str) -> Result<ModuleSites, AllocError> {
 }
 
 /// What the includes override, in the order of includes and keys.
-fn overrides(alloc: Global, text: &str, parts: &[Part]) -> Result<Vec<Overriding>, AllocError> {
+fn overrides(alloc: Global, text: &str, parts: &[FilePart]) -> Result<Vec<Overriding>, AllocError> {
     let mut overrides = Vec::new(alloc);
     for (number, part) in parts.iter().enumerate() {
         if let (Some(include), Some(key)) = (include_around(part), key_of(text, part)) {
@@ -170,7 +170,7 @@ impl Sites<'_> {
     }
 
     /// The parts of a module.
-    pub fn parts(&self, module: usize) -> &[Part] {
+    pub fn parts(&self, module: usize) -> &[FilePart] {
         match self.modules.get(module) {
             Some(held) => held.parts.as_slice(),
             None => &[],
@@ -178,7 +178,7 @@ impl Sites<'_> {
     }
 
     /// The part at a site.
-    pub fn part(&self, site: Site) -> Option<&Part> {
+    pub fn part(&self, site: Site) -> Option<&FilePart> {
         self.parts(site.module).get(site.part)
     }
 

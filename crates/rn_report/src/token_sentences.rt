@@ -1,4 +1,4 @@
-// Sentences on tokens: what can't stand where it is, what is no token, and prefixes.
+// Sentences on tokens: what isn't allowed where it is, what is no token, and prefixes.
 use crate::report::shown_name;
 use rn_outline::{Wanted, unquoted_name};
 use rn_text::{Kind, TextFault, Token, tokens};
@@ -64,7 +64,7 @@ fn name_number(tokens: &[Token<'_>], number: usize) -> usize {
     }
 }
 
-/// The sentence on the token that can't stand where it is, or on the end of the text, with what could come there.
+/// The sentence on the token that isn't allowed where it is, or on the end of the text, with what could come there.
 pub fn unexpected_token(
     alloc: Global,
     text: &str,
@@ -82,7 +82,7 @@ pub fn unexpected_token(
     Ok(sentence)
 }
 
-/// The sentence on the token that can't stand where it is in a text whose outline has no fault.
+/// The sentence on the token that isn't allowed where it is in a text whose outline has no fault.
 pub fn unexpected_sign(alloc: Global, text: &str, at: usize) -> Result<String, AllocError> {
     let tokens = tokens_of(alloc, text)?;
     let number = number_at(tokens.as_slice(), at);
@@ -95,7 +95,7 @@ pub fn unexpected_sign(alloc: Global, text: &str, at: usize) -> Result<String, A
     Ok(sentence)
 }
 
-/// That the token can't stand where it is, or that there is none.
+/// That the token isn't allowed where it is, or that there is none.
 fn faulty_token(alloc: Global, tokens: &[Token<'_>], number: usize) -> Result<String, AllocError> {
     match tokens.get(number) {
         Some(token) => {
@@ -124,7 +124,7 @@ fn is_assignment(tokens: &[Token<'_>], number: usize) -> bool {
     matches!(token_text(tokens, number), "=" | "|=" | "&=")
 }
 
-/// The keyword that stands where a name is meant: before the sign of a definition, or in the place of a pattern or of a
+/// The keyword in the place of a name: before the sign of a definition, or in the place of a pattern or of a
 /// name.
 fn keyword_as_name<'a>(
     tokens: &[Token<'a>],

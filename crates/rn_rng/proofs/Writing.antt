@@ -7,8 +7,8 @@ use Rattle.rn_pattern.specs.Document.{Attribute, Item, node, string, Items, no_i
 use Rattle.rn_syntax.specs.declared.token.Operator.{Operator}
 use Rattle.rn_syntax.specs.declared.token.Operator.TheVariants as o
 use Rattle.rn_rng.specs.declared.lines.Writer.{Writer}
-use Rattle.rn_rng.specs.declared.lines.Stop.{Stop}
-use Rattle.rn_rng.specs.declared.lines.Stop.TheVariants.{TooLarge}
+use Rattle.rn_rng.specs.declared.lines.XmlStop.{XmlStop}
+use Rattle.rn_rng.specs.declared.lines.XmlStop.TheVariants.{TooLarge}
 use Rattle.rn_rng.specs.Layout.{Holder, deeper, end_tag, escaped, held_text, holds_text, in_element, indent, item_text, items_text, max_xml, one_line, reference, rest_text, tag_front}
 use Rattle.rn_rng.specs.Translation.{element, has_items, items_then, one_item, operator_local, text_items, unwrapped}
 use Rattle.rn_rng.specs.inside.Views.{placed}
@@ -26,7 +26,7 @@ writes_nil w = record {
 }
 
 -- nothing is written once it has stopped
-pub writes_stopped : (bs : Text) (w : Writer) (s : Stop) → w.stopped ≡ Some s → Writes bs w w
+pub writes_stopped : (bs : Text) (w : Writer) (s : XmlStop) → w.stopped ≡ Some s → Writes bs w w
 writes_stopped bs w s e = record {
   stays = λ t h. h;
   text = λ h. absurd cc;
@@ -34,15 +34,15 @@ writes_stopped bs w s e = record {
   too_large = λ h i. absurd cc;
 }
 
-stopped_or : (o : Option Stop) → (o ≡ None) ⊎ ((s : Stop) × (o ≡ Some s))
+stopped_or : (o : Option XmlStop) → (o ≡ None) ⊎ ((s : XmlStop) × (o ≡ Some s))
 stopped_or None = inl refl
 stopped_or (Some s) = inr (s, refl)
 
-going : {bs : Text} {b c : Writer} → Writes bs b c → c.stopped ≡ None → (b.stopped ≡ None) ⊎ ((s : Stop) × (b.stopped ≡ Some s)) → b.stopped ≡ None
+going : {bs : Text} {b c : Writer} → Writes bs b c → c.stopped ≡ None → (b.stopped ≡ None) ⊎ ((s : XmlStop) × (b.stopped ≡ Some s)) → b.stopped ≡ None
 going k e (inl m) = m
 going k e (inr m) = absurd (let x = k.stays m.0 m.1 in cc)
 
-too_large_then : (xs ys : Text) {a b c : Writer} → Writes xs a b → Writes ys b c → a.stopped ≡ None → c.stopped ≡ Some TooLarge → (b.stopped ≡ None) ⊎ ((s : Stop) × (b.stopped ≡ Some s)) → max_xml < length (string_bytes a.text ++ (xs ++ ys))
+too_large_then : (xs ys : Text) {a b c : Writer} → Writes xs a b → Writes ys b c → a.stopped ≡ None → c.stopped ≡ Some TooLarge → (b.stopped ≡ None) ⊎ ((s : XmlStop) × (b.stopped ≡ Some s)) → max_xml < length (string_bytes a.text ++ (xs ++ ys))
 too_large_then xs ys {a} {b} {c} h k n e (inl m) = subst (λ t. max_xml < length t) (ap (λ t. t ++ ys) (h.text m) ∙ append_assoc (string_bytes a.text) xs ys) (k.too_large m e)
 too_large_then xs ys {a} {b} {c} h k n e (inr m) =
     let same : Some m.0 ≡ Some TooLarge = sym (k.stays m.0 m.1) ∙ e in

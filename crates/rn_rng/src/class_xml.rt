@@ -8,9 +8,9 @@ ghost use Rattle.rn_rng.specs.Translation.{any_attributes, any_inside, any_local
 ghost use Rattle.rn_rng.specs.inside.Views.{class_at, classes_at, given, optional_view, tag_attributes, uri_of};
 ghost use Rattle.rn_rng.specs.inside.Writes.{Writes};
 
+use crate::element_context::ElementContext;
 use crate::lines::Writer;
 use crate::namespaces::{Namespaces, QualifiedName, UriSource};
-use crate::place::Place;
 use crate::tag::{Attribute, Tag};
 use rn_syntax::{AnyName, Nc, Operator};
 
@@ -43,21 +43,21 @@ pub(crate) fn one_name<'c>(
 fn write_name(
     writer: &mut Writer,
     namespaces: &Namespaces<'_, '_>,
-    place: Place,
+    context: ElementContext,
     namespace: UriSource,
     local: &str,
 )
     ensures { let uri = uri_of namespaces.now namespace in
-        Writes (item_text place.level (translation.element (codes "name")
-        (ns_attributes (uri_of namespaces.now place.namespace) uri)
+        Writes (item_text context.level (translation.element (codes "name")
+        (ns_attributes (uri_of namespaces.now context.namespace) uri)
         (text_items (qualified uri local.now)))) writer.old writer.new }
 {
     let tag = Tag {
         element: "name",
-        first: namespaces.ns_attribute(place.namespace, namespace),
+        first: namespaces.ns_attribute(context.namespace, namespace),
         second: None,
     };
-    writer.line(place.level, &tag, namespaces.prefix_of(namespace), local);
+    writer.line(context.level, &tag, namespaces.prefix_of(namespace), local);
 }
 
 /// The element of all names, or of all of a namespace.
@@ -117,36 +117,36 @@ fn namespace_inside(
 pub(crate) fn write_class(
     writer: &mut Writer,
     namespaces: &Namespaces<'_, '_>,
-    place: Place,
+    context: ElementContext,
     own: UriSource,
     class: &Nc<'_>,
 )
-    ensures { Writes (class_at namespaces.now place own (class_view class.now))
+    ensures { Writes (class_at namespaces.now context own (class_view class.now))
         writer.old writer.new }
 {
     if writer.stopped.is_some() {
         return;
     }
     match class {
-        Nc::Local(local) => write_name(writer, namespaces, place, own, local),
+        Nc::Local(local) => write_name(writer, namespaces, context, own, local),
         Nc::Prefixed(name) => {
             let namespace = namespaces.namespace(name.prefix.name);
-            write_name(writer, namespaces, place, namespace, name.local);
+            write_name(writer, namespaces, context, namespace, name.local);
         }
-        Nc::All(any) => writer.empty(place.level, &any_tag(namespaces, any)),
+        Nc::All(any) => writer.empty(context.level, &any_tag(namespaces, any)),
         Nc::AllBut(any, except) => {
-            writer.open(place.level, &any_tag(namespaces, any));
-            let namespace = namespace_inside(namespaces, place.namespace, any);
+            writer.open(context.level, &any_tag(namespaces, any));
+            let namespace = namespace_inside(namespaces, context.namespace, any);
             write_except(
                 writer,
                 namespaces,
-                place.inside().under(namespace),
+                context.inside().under(namespace),
                 own,
                 except,
             );
-            writer.close(place.level, any_element(any));
+            writer.close(context.level, any_element(any));
         }
-        Nc::Choice(members) => write_choice(writer, namespaces, place, own, members),
+        Nc::Choice(members) => write_choice(writer, namespaces, context, own, members),
     }
 }
 
@@ -155,18 +155,18 @@ pub(crate) fn write_class(
 fn write_except(
     writer: &mut Writer,
     namespaces: &Namespaces<'_, '_>,
-    place: Place,
+    context: ElementContext,
     own: UriSource,
     except: &Nc<'_>,
 )
-    ensures { Writes (item_text place.level (except_element (class_xml (given namespaces.now)
-        (uri_of namespaces.now place.namespace) (uri_of namespaces.now own)
+    ensures { Writes (item_text context.level (except_element (class_xml (given namespaces.now)
+        (uri_of namespaces.now context.namespace) (uri_of namespaces.now own)
         (class_view except.now)))) writer.old writer.new }
 {
-    writer.open_bare(place.level, "except");
-    let inside = place.inside().wrapped(Operator::Bar);
+    writer.open_bare(context.level, "except");
+    let inside = context.inside().wrapped(Operator::Bar);
     write_class(writer, namespaces, inside, own, except);
-    writer.close(place.level, "except");
+    writer.close(context.level, "except");
 }
 
 /// Writes a choice: its members alone where they are in one already.
@@ -174,21 +174,21 @@ fn write_except(
 fn write_choice(
     writer: &mut Writer,
     namespaces: &Namespaces<'_, '_>,
-    place: Place,
+    context: ElementContext,
     own: UriSource,
     members: &[Nc<'_>],
 )
-    ensures { Writes (class_at namespaces.now place own (tree.choice (classes_view members.now)))
+    ensures { Writes (class_at namespaces.now context own (tree.choice (classes_view members.now)))
         writer.old writer.new }
 {
     if members.is_empty() {
-        writer.empty_bare(place.level, "choice");
-    } else if place.is_in(Operator::Bar) {
-        write_classes(writer, namespaces, place.alone(), own, members);
+        writer.empty_bare(context.level, "choice");
+    } else if context.is_in(Operator::Bar) {
+        write_classes(writer, namespaces, context.alone(), own, members);
     } else {
-        writer.open_bare(place.level, "choice");
-        write_classes(writer, namespaces, place.inside(), own, members);
-        writer.close(place.level, "choice");
+        writer.open_bare(context.level, "choice");
+        write_classes(writer, namespaces, context.inside(), own, members);
+        writer.close(context.level, "choice");
     }
 }
 
@@ -197,13 +197,13 @@ fn write_choice(
 fn write_classes(
     writer: &mut Writer,
     namespaces: &Namespaces<'_, '_>,
-    place: Place,
+    context: ElementContext,
     own: UriSource,
     classes: &[Nc<'_>],
 )
-    ensures { Writes (classes_at namespaces.now place own classes.now) writer.old writer.new }
+    ensures { Writes (classes_at namespaces.now context own classes.now) writer.old writer.new }
 {
     for class in classes {
-        write_class(writer, namespaces, place, own, class);
+        write_class(writer, namespaces, context, own, class);
     }
 }

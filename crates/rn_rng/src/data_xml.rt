@@ -11,9 +11,9 @@ ghost use Rattle.rn_rng.specs.Translation.{param_element, params_xml, text_items
 ghost use Rattle.rn_rng.specs.inside.Views.{given, tag_attributes, uri_of};
 ghost use Rattle.rn_rng.specs.inside.Writes.{Writes};
 
+use crate::element_context::ElementContext;
 use crate::lines::Writer;
 use crate::namespaces::{Namespaces, UriSource};
-use crate::place::Place;
 use crate::tag::{Attribute, Tag};
 use rn_syntax::{Data, Datatype, Param, Value};
 
@@ -68,16 +68,16 @@ fn value_tag<'t>(
 pub(crate) fn write_value(
     writer: &mut Writer,
     namespaces: &Namespaces<'_, '_>,
-    place: Place,
+    context: ElementContext,
     value: &Value<'_>,
 )
-    ensures { Writes (item_text place.level (translation.element (codes "value")
-        (value_attributes (given namespaces.now) (uri_of namespaces.now place.library)
+    ensures { Writes (item_text context.level (translation.element (codes "value")
+        (value_attributes (given namespaces.now) (uri_of namespaces.now context.library)
         (type_view value.now.datatype)) (text_items (cow_str_bytes value.now.text))))
         writer.old writer.new }
 {
-    let tag = value_tag(&*namespaces, place.library, &value.datatype);
-    writer.line(place.level, &tag, "", value.text.as_str());
+    let tag = value_tag(&*namespaces, context.library, &value.datatype);
+    writer.line(context.level, &tag, "", value.text.as_str());
 }
 
 /// Writes data without an except.
@@ -85,21 +85,21 @@ pub(crate) fn write_value(
 pub(crate) fn write_data(
     writer: &mut Writer,
     namespaces: &Namespaces<'_, '_>,
-    place: Place,
+    context: ElementContext,
     data: &Data<'_>,
 )
-    ensures { Writes (item_text place.level (translation.element (codes "data")
-        (type_attributes (given namespaces.now) (uri_of namespaces.now place.library)
+    ensures { Writes (item_text context.level (translation.element (codes "data")
+        (type_attributes (given namespaces.now) (uri_of namespaces.now context.library)
         (datatype_view «data».now.datatype)) (params_xml (params_view «data».now.params.items))))
         writer.old writer.new }
 {
-    let tag = typed_tag(&*namespaces, place.library, "data", &data.datatype);
+    let tag = typed_tag(&*namespaces, context.library, "data", &data.datatype);
     if data.params.is_empty() {
-        writer.empty(place.level, &tag);
+        writer.empty(context.level, &tag);
     } else {
-        writer.open(place.level, &tag);
-        write_params(writer, place.inside().level, &data.params);
-        writer.close(place.level, "data");
+        writer.open(context.level, &tag);
+        write_params(writer, context.inside().level, &data.params);
+        writer.close(context.level, "data");
     }
 }
 
@@ -108,18 +108,18 @@ pub(crate) fn write_data(
 pub(crate) fn open_data(
     writer: &mut Writer,
     namespaces: &Namespaces<'_, '_>,
-    place: Place,
+    context: ElementContext,
     data: &Data<'_>,
 )
-    ensures { Writes (tag_front place.level (codes "data")
-        (type_attributes (given namespaces.now) (uri_of namespaces.now place.library)
+    ensures { Writes (tag_front context.level (codes "data")
+        (type_attributes (given namespaces.now) (uri_of namespaces.now context.library)
         (datatype_view «data».now.datatype)) ++ (codes ">\n"
-        ++ items_text (layout.deeper place.level)
+        ++ items_text (layout.deeper context.level)
         (params_xml (params_view «data».now.params.items)))) writer.old writer.new }
 {
-    let tag = typed_tag(&*namespaces, place.library, "data", &data.datatype);
-    writer.open(place.level, &tag);
-    write_params(writer, place.inside().level, &data.params);
+    let tag = typed_tag(&*namespaces, context.library, "data", &data.datatype);
+    writer.open(context.level, &tag);
+    write_params(writer, context.inside().level, &data.params);
 }
 
 /// Writes the lines of parameters.

@@ -8,10 +8,10 @@ ghost use Rattle.rn_rng.specs.Written.{IsUnwritten, IsWritten};
 ghost use Rattle.rn_rng.specs.inside.Views.{given, optional_view};
 ghost use Rattle.rn_rng.specs.inside.Writes.{Writes};
 
+use crate::element_context::ElementContext;
 use crate::lines::{Writer, deeper};
 use crate::namespaces::Namespaces;
 use crate::pattern_xml::write_pattern;
-use crate::place::Place;
 use crate::tag::{Attribute, Tag};
 use crate::xml_fault::XmlFault;
 use rn_syntax::{Item, Method, Module, Operator, Pat, includes};
@@ -129,7 +129,7 @@ fn write_definition(
         second: combine(method),
     };
     writer.open(level, &tag);
-    let inside = Place::at(deeper(level)).wrapped(Operator::Comma);
+    let inside = ElementContext::at(deeper(level)).wrapped(Operator::Comma);
     write_pattern(writer, namespaces, inside, body);
     writer.close(level, "define");
 }
@@ -151,6 +151,6 @@ fn write_start(
         second: None,
     };
     writer.open(level, &tag);
-    write_pattern(writer, namespaces, Place::at(deeper(level)), body);
+    write_pattern(writer, namespaces, ElementContext::at(deeper(level)), body);
     writer.close(level, "start");
 }

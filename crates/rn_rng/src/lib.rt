@@ -6,6 +6,7 @@
 
 mod class_xml;
 mod data_xml;
+mod element_context;
 mod escapes;
 pub mod grammar_xml;
 pub mod laws;
@@ -13,7 +14,6 @@ mod lines;
 pub mod meaning_laws;
 mod namespaces;
 mod pattern_xml;
-mod place;
 pub mod schema_text;
 mod tag;
 pub mod xml_fault;

@@ -29,7 +29,7 @@ pub(crate) fn deeper(level: usize) -> usize
 
 /// Why no more is written.
 #[derive(Clone, Copy, PartialEq, Eq)]
-pub(crate) enum Stop {
+pub(crate) enum XmlStop {
     /// The text would have more than [`MAX_XML`] bytes.
     TooLarge,
     Memory,
@@ -39,7 +39,7 @@ pub(crate) enum Stop {
 #[derive(Drop)]
 pub(crate) struct Writer {
     pub text: String,
-    pub stopped: Option<Stop>,
+    pub stopped: Option<XmlStop>,
 }
 
 impl Writer {
@@ -60,8 +60,8 @@ impl Writer {
         ensures err { IfErr result (IsHindrance self) }
     {
         match self.stopped {
-            Some(Stop::Memory) => Err(XmlFault::Memory),
-            Some(Stop::TooLarge) => Err(XmlFault::TooLarge),
+            Some(XmlStop::Memory) => Err(XmlFault::Memory),
+            Some(XmlStop::TooLarge) => Err(XmlFault::TooLarge),
             None => Ok(self.text),
         }
     }
@@ -72,9 +72,9 @@ impl Writer {
         ensures { self.new ≡ record self.old { stopped = stop_behind appended self.old } }
     {
         if !appended {
-            self.stopped = Some(Stop::Memory);
+            self.stopped = Some(XmlStop::Memory);
         } else if self.text.len() > MAX_XML {
-            self.stopped = Some(Stop::TooLarge);
+            self.stopped = Some(XmlStop::TooLarge);
         }
     }
 

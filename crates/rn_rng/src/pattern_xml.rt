@@ -14,9 +14,9 @@ ghost use Rattle.rn_rng.specs.inside.Writes.{Writes};
 
 use crate::class_xml::{one_name, write_class};
 use crate::data_xml::{open_data, write_data, write_value};
+use crate::element_context::ElementContext;
 use crate::lines::Writer;
 use crate::namespaces::{Namespaces, QualifiedName, UriSource};
-use crate::place::Place;
 use crate::tag::{Attribute, Tag};
 use rn_syntax::{Data, Named, Nc, Operator, Pat, Postfix};
 
@@ -88,43 +88,43 @@ fn namespace_inside(
     }
 }
 
-/// Writes the start tag of an element, with one name as its attribute, any other class after it, and answers the place
+/// Writes the start tag of an element, with one name as its attribute, any other class after it, and answers the context
 /// after that. A name without prefix is in the namespace `own`; without `ns` a name would be in `taken`.
 fn open_head(
     writer: &mut Writer,
     namespaces: &Namespaces<'_, '_>,
-    place: Place,
+    context: ElementContext,
     element: &str,
     taken: UriSource,
     own: UriSource,
     class: &Nc<'_>,
-) -> Place
-    ensures written { Writes (tag_front place.level element.now
+) -> ElementContext
+    ensures written { Writes (tag_front context.level element.now
         (class_attributes (given namespaces.now) (uri_of namespaces.now taken)
         (uri_of namespaces.now own) (class_view class.now))
-        ++ (codes ">\n" ++ items_text (layout.deeper place.level)
-        (class_items (given namespaces.now) (uri_of namespaces.now place.namespace)
+        ++ (codes ">\n" ++ items_text (layout.deeper context.level)
+        (class_items (given namespaces.now) (uri_of namespaces.now context.namespace)
         (uri_of namespaces.now own) (class_view class.now)))) writer.old writer.new }
     ensures namespace { uri_of namespaces.now result.namespace ≡ class_inside (given namespaces.now)
-        (uri_of namespaces.now place.namespace) (uri_of namespaces.now taken)
+        (uri_of namespaces.now context.namespace) (uri_of namespaces.now taken)
         (uri_of namespaces.now own) (class_view class.now) }
-    ensures level { result.level ≡ layout.deeper place.level }
+    ensures level { result.level ≡ layout.deeper context.level }
     ensures alone { result.wrapper ≡ prelude.None }
-    ensures library { result.library ≡ place.library }
+    ensures library { result.library ≡ context.library }
 {
     match one_name(namespaces, own, class) {
         Some(name) => {
             writer.open(
-                place.level,
+                context.level,
                 &named_tag(&*namespaces, &*element, taken, name),
             );
-            let namespace = namespace_inside(namespaces, place.namespace, taken, name.namespace);
-            place.inside().under(namespace)
+            let namespace = namespace_inside(namespaces, context.namespace, taken, name.namespace);
+            context.inside().under(namespace)
         }
         None => {
-            writer.open_bare(place.level, element);
-            write_class(writer, namespaces, place.inside(), own, class);
-            place.inside()
+            writer.open_bare(context.level, element);
+            write_class(writer, namespaces, context.inside(), own, class);
+            context.inside()
         }
     }
 }
@@ -134,26 +134,26 @@ fn open_head(
 fn write_text_attribute(
     writer: &mut Writer,
     namespaces: &Namespaces<'_, '_>,
-    place: Place,
+    context: ElementContext,
     class: &Nc<'_>,
 )
-    ensures { Writes (item_text place.level (translation.element (codes "attribute")
+    ensures { Writes (item_text context.level (translation.element (codes "attribute")
         (class_attributes (given namespaces.now) [] [] (class_view class.now))
-        (class_items (given namespaces.now) (uri_of namespaces.now place.namespace) []
+        (class_items (given namespaces.now) (uri_of namespaces.now context.namespace) []
         (class_view class.now)))) writer.old writer.new }
 {
     let own = UriSource::Empty;
     match one_name(namespaces, own, class) {
         Some(name) => {
             writer.empty(
-                place.level,
+                context.level,
                 &named_tag(&*namespaces, "attribute", own, name),
             );
         }
         None => {
-            writer.open_bare(place.level, "attribute");
-            write_class(writer, namespaces, place.inside(), own, class);
-            writer.close(place.level, "attribute");
+            writer.open_bare(context.level, "attribute");
+            write_class(writer, namespaces, context.inside(), own, class);
+            writer.close(context.level, "attribute");
         }
     }
 }
@@ -181,32 +181,32 @@ fn write_empty(writer: &mut Writer, level: usize, element: &str)
 pub(crate) fn write_pattern(
     writer: &mut Writer,
     namespaces: &Namespaces<'_, '_>,
-    place: Place,
+    context: ElementContext,
     pattern: &Pat<'_>,
 )
-    ensures { Writes (pattern_at namespaces.now place (pattern_view pattern.now))
+    ensures { Writes (pattern_at namespaces.now context (pattern_view pattern.now))
         writer.old writer.new }
 {
     if writer.stopped.is_some() {
         return;
     }
     match pattern {
-        Pat::Element(named) => write_element(writer, namespaces, place, named),
-        Pat::Attribute(named) => write_attribute(writer, namespaces, place, named),
-        Pat::List(content) => write_around(writer, namespaces, place, "list", content),
-        Pat::Mixed(content) => write_around(writer, namespaces, place, "mixed", content),
-        Pat::Empty => write_empty(writer, place.level, "empty"),
-        Pat::NotAllowed => write_empty(writer, place.level, "notAllowed"),
-        Pat::Text => write_empty(writer, place.level, "text"),
-        Pat::Ref(name) => write_ref(writer, place.level, name),
-        Pat::Value(value) => write_value(writer, namespaces, place, value),
-        Pat::Datum(data) => write_data(writer, namespaces, place, data),
-        Pat::DatumBut(data, _, except) => write_data_but(writer, namespaces, place, data, except),
+        Pat::Element(named) => write_element(writer, namespaces, context, named),
+        Pat::Attribute(named) => write_attribute(writer, namespaces, context, named),
+        Pat::List(content) => write_around(writer, namespaces, context, "list", content),
+        Pat::Mixed(content) => write_around(writer, namespaces, context, "mixed", content),
+        Pat::Empty => write_empty(writer, context.level, "empty"),
+        Pat::NotAllowed => write_empty(writer, context.level, "notAllowed"),
+        Pat::Text => write_empty(writer, context.level, "text"),
+        Pat::Ref(name) => write_ref(writer, context.level, name),
+        Pat::Value(value) => write_value(writer, namespaces, context, value),
+        Pat::Datum(data) => write_data(writer, namespaces, context, data),
+        Pat::DatumBut(data, _, except) => write_data_but(writer, namespaces, context, data, except),
         Pat::Repeated(postfix, content) => {
-            write_around(writer, namespaces, place, repetition(*postfix), content);
+            write_around(writer, namespaces, context, repetition(*postfix), content);
         }
         Pat::Chain(operator, members) => {
-            write_chain(writer, namespaces, place, *operator, members);
+            write_chain(writer, namespaces, context, *operator, members);
         }
     }
 }
@@ -216,20 +216,20 @@ pub(crate) fn write_pattern(
 fn write_element(
     writer: &mut Writer,
     namespaces: &Namespaces<'_, '_>,
-    place: Place,
+    context: ElementContext,
     named: &Named<'_>,
 )
-    ensures { Writes (item_text place.level (pattern_xml (given namespaces.now)
-        (uri_of namespaces.now place.namespace) (uri_of namespaces.now place.library)
+    ensures { Writes (item_text context.level (pattern_xml (given namespaces.now)
+        (uri_of namespaces.now context.namespace) (uri_of namespaces.now context.library)
         (tree.element (class_view named.now.class) (pattern_view named.now.content))))
         writer.old writer.new }
 {
     let own = namespaces.default_namespace();
-    let taken = place.namespace;
+    let taken = context.namespace;
     let inside = open_head(
         writer,
         namespaces,
-        place,
+        context,
         "element",
         taken,
         own,
@@ -237,7 +237,7 @@ fn write_element(
     );
     let inside = inside.wrapped(Operator::Comma);
     write_pattern(writer, namespaces, inside, &named.content);
-    writer.close(place.level, "element");
+    writer.close(context.level, "element");
 }
 
 /// Writes an attribute; a name without prefix is in no namespace, and any text is left out (RELAX NG 2001, 4.12).
@@ -245,30 +245,30 @@ fn write_element(
 fn write_attribute(
     writer: &mut Writer,
     namespaces: &Namespaces<'_, '_>,
-    place: Place,
+    context: ElementContext,
     named: &Named<'_>,
 )
-    ensures { Writes (item_text place.level (pattern_xml (given namespaces.now)
-        (uri_of namespaces.now place.namespace) (uri_of namespaces.now place.library)
+    ensures { Writes (item_text context.level (pattern_xml (given namespaces.now)
+        (uri_of namespaces.now context.namespace) (uri_of namespaces.now context.library)
         (tree.attribute (class_view named.now.class) (pattern_view named.now.content))))
         writer.old writer.new }
 {
     if is_text(&named.content) {
-        write_text_attribute(writer, namespaces, place, &named.class);
+        write_text_attribute(writer, namespaces, context, &named.class);
         return;
     }
     let none = UriSource::Empty;
     let inside = open_head(
         writer,
         namespaces,
-        place,
+        context,
         "attribute",
         none,
         none,
         &named.class,
     );
     write_pattern(writer, namespaces, inside, &named.content);
-    writer.close(place.level, "attribute");
+    writer.close(context.level, "attribute");
 }
 
 /// Writes an element of this name round a pattern that is in a group already.
@@ -276,20 +276,20 @@ fn write_attribute(
 fn write_around(
     writer: &mut Writer,
     namespaces: &Namespaces<'_, '_>,
-    place: Place,
+    context: ElementContext,
     element: &str,
     content: &Pat<'_>,
 )
     requires { layout.holds_text element.now ≡ prelude.false }
-    ensures { Writes (item_text place.level (translation.element element.now []
-        (grouped (pattern_xml (given namespaces.now) (uri_of namespaces.now place.namespace)
-        (uri_of namespaces.now place.library) (pattern_view content.now)))))
+    ensures { Writes (item_text context.level (translation.element element.now []
+        (grouped (pattern_xml (given namespaces.now) (uri_of namespaces.now context.namespace)
+        (uri_of namespaces.now context.library) (pattern_view content.now)))))
         writer.old writer.new }
 {
-    writer.open_bare(place.level, element);
-    let inside = place.inside().wrapped(Operator::Comma);
+    writer.open_bare(context.level, element);
+    let inside = context.inside().wrapped(Operator::Comma);
     write_pattern(writer, namespaces, inside, content);
-    writer.close(place.level, element);
+    writer.close(context.level, element);
 }
 
 /// Writes a group, an interleave or a choice: its members alone where they are in one already.
@@ -297,22 +297,22 @@ fn write_around(
 fn write_chain(
     writer: &mut Writer,
     namespaces: &Namespaces<'_, '_>,
-    place: Place,
+    context: ElementContext,
     operator: Operator,
     members: &[Pat<'_>],
 )
-    ensures { Writes (pattern_at namespaces.now place
+    ensures { Writes (pattern_at namespaces.now context
         (tree.chain operator (patterns_view members.now))) writer.old writer.new }
 {
     let element = connector(operator);
     if members.is_empty() {
-        writer.empty_bare(place.level, element);
-    } else if place.is_in(operator) {
-        write_patterns(writer, namespaces, place.alone(), members);
+        writer.empty_bare(context.level, element);
+    } else if context.is_in(operator) {
+        write_patterns(writer, namespaces, context.alone(), members);
     } else {
-        writer.open_bare(place.level, element);
-        write_patterns(writer, namespaces, place.inside(), members);
-        writer.close(place.level, element);
+        writer.open_bare(context.level, element);
+        write_patterns(writer, namespaces, context.inside(), members);
+        writer.close(context.level, element);
     }
 }
 
@@ -321,13 +321,13 @@ fn write_chain(
 fn write_patterns(
     writer: &mut Writer,
     namespaces: &Namespaces<'_, '_>,
-    place: Place,
+    context: ElementContext,
     patterns: &[Pat<'_>],
 )
-    ensures { Writes (patterns_at namespaces.now place patterns.now) writer.old writer.new }
+    ensures { Writes (patterns_at namespaces.now context patterns.now) writer.old writer.new }
 {
     for pattern in patterns {
-        write_pattern(writer, namespaces, place, pattern);
+        write_pattern(writer, namespaces, context, pattern);
     }
 }
 
@@ -336,25 +336,25 @@ fn write_patterns(
 fn write_data_but(
     writer: &mut Writer,
     namespaces: &Namespaces<'_, '_>,
-    place: Place,
+    context: ElementContext,
     data: &Data<'_>,
     except: &Pat<'_>,
 )
-    ensures { (i : prelude.ℕ) → Writes (item_text place.level (pattern_xml (given namespaces.now)
-        (uri_of namespaces.now place.namespace) (uri_of namespaces.now place.library)
+    ensures { (i : prelude.ℕ) → Writes (item_text context.level (pattern_xml (given namespaces.now)
+        (uri_of namespaces.now context.namespace) (uri_of namespaces.now context.library)
         (tree.datum_but (datatype_view «data».now.datatype)
         (params_view «data».now.params.items) i (pattern_view except.now))))
         writer.old writer.new }
 {
-    open_data(writer, namespaces, place, data);
+    open_data(writer, namespaces, context, data);
     let library = namespaces.library(&data.datatype);
     write_except(
         writer,
         namespaces,
-        place.inside().with_library(library),
+        context.inside().with_library(library),
         except,
     );
-    writer.close(place.level, "data");
+    writer.close(context.level, "data");
 }
 
 /// Writes an except: its children need no choice around them.
@@ -362,15 +362,15 @@ fn write_data_but(
 fn write_except(
     writer: &mut Writer,
     namespaces: &Namespaces<'_, '_>,
-    place: Place,
+    context: ElementContext,
     except: &Pat<'_>,
 )
-    ensures { Writes (item_text place.level (except_element (pattern_xml (given namespaces.now)
-        (uri_of namespaces.now place.namespace) (uri_of namespaces.now place.library)
+    ensures { Writes (item_text context.level (except_element (pattern_xml (given namespaces.now)
+        (uri_of namespaces.now context.namespace) (uri_of namespaces.now context.library)
         (pattern_view except.now)))) writer.old writer.new }
 {
-    writer.open_bare(place.level, "except");
-    let inside = place.inside().wrapped(Operator::Bar);
+    writer.open_bare(context.level, "except");
+    let inside = context.inside().wrapped(Operator::Bar);
     write_pattern(writer, namespaces, inside, except);
-    writer.close(place.level, "except");
+    writer.close(context.level, "except");
 }

@@ -4,14 +4,14 @@ use Rattle.std.specs.List.{AllByRecursion}
 use Rattle.std.specs.BTreeSet.{BTreeSet, contains_text}
 use Rattle.std.specs.declared.alloc.Global.{Global}
 use Rattle.rn_outline.specs.TokenNames.{unquoted_name}
-use Rattle.rn_outline.specs.declared.file_parts.Part.{Part}
-use Rattle.rn_outline.specs.declared.file_parts.PartKind.{PartKind}
-use Rattle.rn_outline.specs.declared.file_parts.PartKind.TheVariants.{Define, Reference, Parent}
+use Rattle.rn_outline.specs.declared.file_parts.FilePart.{FilePart}
+use Rattle.rn_outline.specs.declared.file_parts.FilePartKind.{FilePartKind}
+use Rattle.rn_outline.specs.declared.file_parts.FilePartKind.TheVariants.{Define, Reference, Parent}
 use Rattle.rn_outline.specs.declared.file_parts.Span.{Span}
-use Rattle.rn_scopes.specs.declared.given.Lifting.{Lifting}
+use Rattle.rn_scopes.specs.declared.input_files.Lifting.{Lifting}
 
 -- the token that is the name which a part defines or refers to
-abbrev pub name_span : PartKind → Option Span
+abbrev pub name_span : FilePartKind → Option Span
 name_span (Define name _ _ _ _) = Some name
 name_span (Reference name) = Some name
 name_span (Parent name) = Some name
@@ -26,7 +26,7 @@ abbrev pub IsFreeName : BTreeSet (String Global) → List ℕ → List ℕ → T
 IsFreeName own start name = (name ≢ start) × IsNoOwn own name
 
 -- the name that a part writes, if it writes one, is free
-abbrev pub PartIsFree : BTreeSet (String Global) → List ℕ → List ℕ → Part → Type 0
+abbrev pub PartIsFree : BTreeSet (String Global) → List ℕ → List ℕ → FilePart → Type 0
 PartIsFree own start text p = (s : Span) → name_span p.kind ≡ Some s → IsFreeName own start (unquoted_name (slice_range text s.from s.to))
 
 -- the names that a file writes are free

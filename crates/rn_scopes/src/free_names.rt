@@ -4,10 +4,10 @@ ghost use Rattle.std.specs.BTreeSet.{contains_text};
 ghost use Rattle.rn_scopes.specs.FreeNames.{AreFree, FileIsFree, IsFreeName, IsNoOwn, PartIsFree};
 ghost use Rattle.rn_scopes.specs.UnitFiles.{files_of};
 
-use crate::given::Given;
+use crate::input_files::InputFile;
 use crate::own_names::{Names, name_span};
 use crate::units::Units;
-use rn_outline::{Part, unquoted_name};
+use rn_outline::{FilePart, unquoted_name};
 use std::collections::BTreeSet;
 
 /// Whether no name that the files write is one generated for a scope, or for a start.
@@ -24,7 +24,7 @@ pub(crate) fn are_free(units: &Units<'_>, names: &Names) -> bool
 }
 
 /// Whether no name that one file writes is one generated for a scope, or for a start.
-fn is_free_file(given: &Given<'_>, names: &Names) -> bool
+fn is_free_file(given: &InputFile<'_>, names: &Names) -> bool
     ensures { IsTrue result
         → FileIsFree names.now.made_stems (string_bytes names.now.start) given.now.file }
 {
@@ -38,7 +38,7 @@ fn is_free_file(given: &Given<'_>, names: &Names) -> bool
     true
 }
 
-fn is_free_part(text: &str, part: &Part, names: &Names) -> bool
+fn is_free_part(text: &str, part: &FilePart, names: &Names) -> bool
     ensures { IsTrue result
         → PartIsFree names.now.made_stems (string_bytes names.now.start) text.now part.now }
 {

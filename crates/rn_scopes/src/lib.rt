@@ -6,7 +6,7 @@
 #![tactic(auto)]
 
 mod free_names;
-pub mod given;
+pub mod input_files;
 pub mod lift_fault;
 mod linking;
 mod marks;
@@ -18,7 +18,7 @@ mod root_includes;
 pub mod scopes;
 pub mod units;
 
-pub use given::{Given, Lifting};
+pub use input_files::{InputFile, Lifting};
 pub use lift_fault::{LiftFault, LiftFaultKind};
 pub use own_names::{Names, Taken, own_name};
 pub use plan::{MAX_PLACES, make_plan};

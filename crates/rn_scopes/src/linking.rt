@@ -17,15 +17,15 @@ pub(crate) struct Here {
 /// An external or an include: the file that it names, the prefix after `inherit =`, and the byte of
 /// its literal.
 #[derive(Clone, Copy)]
-pub(crate) struct Named {
+pub(crate) struct NamedFile {
     pub(crate) target: Option<usize>,
     pub(crate) inherit: Option<Span>,
     pub(crate) at: usize,
 }
 
-impl Named {
+impl NamedFile {
     pub(crate) fn new(target: Option<usize>, inherit: Option<Span>, at: usize) -> Self {
-        Named {
+        NamedFile {
             target,
             inherit,
             at,

@@ -1,6 +1,6 @@
 // Namespaces that are inherited, by index.
 
-use crate::given::Given;
+use crate::input_files::InputFile;
 use crate::outline_bindings::Namespace;
 use rn_outline::{Span, name_in};
 use std::alloc::{AllocError, Global};
@@ -60,7 +60,7 @@ impl Namespaces {
     pub(crate) fn handed_namespace(
         &mut self,
         alloc: Global,
-        given: &Given<'_>,
+        given: &InputFile<'_>,
         inherit: Option<Span>,
         handed: usize,
     ) -> Result<Option<usize>, AllocError> {

@@ -4,9 +4,9 @@ ghost use Rattle.std.specs.BTreeSet.{contains_text};
 ghost use Rattle.rn_scopes.specs.FreeNames.{name_span};
 ghost use Rattle.rn_scopes.specs.NameSets.{Takes};
 
-use crate::given::Given;
+use crate::input_files::InputFile;
 use crate::units::Units;
-use rn_outline::{PartKind, Span, name_in};
+use rn_outline::{FilePartKind, Span, name_in};
 use std::alloc::{AllocError, Global};
 use std::collections::{BTreeMap, BTreeSet};
 
@@ -121,18 +121,19 @@ fn push_stem(stem: &mut String, c: char) -> Result<(), AllocError> {
 }
 
 /// The token that is the name which a part defines or refers to.
-pub(crate) fn name_span(kind: &PartKind) -> Option<Span>
+pub(crate) fn name_span(kind: &FilePartKind) -> Option<Span>
     ensures { result ≡ name_span kind.now }
 {
     match kind {
-        PartKind::Define { name, .. } | PartKind::Reference { name } | PartKind::Parent { name } =>
-            { Some(*name) }
+        FilePartKind::Define { name, .. }
+        | FilePartKind::Reference { name }
+        | FilePartKind::Parent { name } => { Some(*name) }
         _ => None,
     }
 }
 
 /// The name that a part defines or refers to; nothing, if it does neither.
-pub(crate) fn written_name<'a>(text: &'a str, kind: &PartKind) -> &'a str {
+pub(crate) fn written_name<'a>(text: &'a str, kind: &FilePartKind) -> &'a str {
     match name_span(kind) {
         Some(span) => name_in(text, span),
         None => "",
@@ -187,7 +188,7 @@ impl Names {
         &mut self,
         alloc: Global,
         starts: &mut Taken,
-        given: &Given<'_>,
+        given: &InputFile<'_>,
     ) -> Result<(), AllocError> {
         let outline = given.file.outline;
         for part in &outline.parts {

@@ -5,14 +5,14 @@ ghost use Rattle.rn_scopes.specs.FreeNames.{AreFree};
 
 use crate::free_names::are_free;
 use crate::lift_fault::{LiftFault, LiftFaultKind};
-use crate::linking::{Here, Named, fault};
+use crate::linking::{Here, NamedFile, fault};
 use crate::marks::is_marked;
 use crate::namespaces::Namespaces;
 use crate::own_names::Names;
 use crate::root_includes::included_files;
 use crate::scopes::{Link, PlacedUnit, PlacedUnitKey, Plan, ROOT, Scope, ScopeKey};
 use crate::units::Units;
-use rn_outline::{Part, PartKind, Span};
+use rn_outline::{FilePart, FilePartKind, Span};
 use std::alloc::{AllocError, Global};
 use std::collections::BTreeMap;
 
@@ -158,29 +158,29 @@ impl Plan {
         here: Here,
         number: usize,
         target: Option<usize>,
-        part: &Part,
+        part: &FilePart,
     ) -> Result<(), LiftFault> {
         let to = match &part.kind {
-            PartKind::Include {
+            FilePartKind::Include {
                 inherit,
                 literal_at,
                 ..
             } => {
-                let named = Named::new(target, *inherit, literal_at.from);
+                let named = NamedFile::new(target, *inherit, literal_at.from);
                 self.included_place(alloc, units, here, named)?
             }
-            PartKind::External {
+            FilePartKind::External {
                 inherit,
                 literal_at,
                 ..
             } => {
-                let named = Named::new(target, *inherit, literal_at.from);
+                let named = NamedFile::new(target, *inherit, literal_at.from);
                 self.placed_scope(alloc, units, here, named)?
             }
-            PartKind::Grammar { number, .. } => {
+            FilePartKind::Grammar { number, .. } => {
                 self.nested_scope(alloc, units, here, *number, part.at.from)?
             }
-            PartKind::Parent { .. } => return self.has_parent(here, part.at.from),
+            FilePartKind::Parent { .. } => return self.has_parent(here, part.at.from),
             _ => return Ok(()),
         };
         self.add_link(here.place, number, to)
@@ -209,7 +209,7 @@ impl Plan {
         alloc: Global,
         units: &Units<'_>,
         here: Here,
-        named: Named,
+        named: NamedFile,
     ) -> Result<usize, LiftFault> {
         let unit = named.unit(units, here)?;
         if units.is_pattern(unit) {
@@ -231,7 +231,7 @@ impl Plan {
         alloc: Global,
         units: &Units<'_>,
         here: Here,
-        named: Named,
+        named: NamedFile,
     ) -> Result<usize, LiftFault> {
         let unit = named.unit(units, here)?;
         let Some(namespace) = self.handed_namespace(alloc, units, here, named.inherit)? else {
@@ -284,18 +284,11 @@ impl Plan {
         namespace: usize,
         at: usize,
     ) -> Result<usize, LiftFault> {
-        let around = self
-            .scopes
-            .get(here.scope)
-            .map(|scope| scope.reference_scope);
+        let around = self.reference_scope_of(here.scope);
         let key = ScopeKey {
             unit,
             namespace,
-            around: if units.depends_on_around(unit) {
-                around
-            } else {
-                None
-            },
+            around: units.depends_on_around(unit).then_some(around),
         };
         if let Some(number) = self.scope_numbers.get(&key) {
             return Ok(*number);
@@ -320,12 +313,9 @@ impl Plan {
         namespace: usize,
         at: usize,
     ) -> Result<Scope, LiftFault> {
-        let (around, above) = match self.scopes.get(here.scope) {
-            Some(scope) => (scope.reference_scope, self.parent_of(scope.reference_scope)),
-            None => (ROOT, None),
-        };
+        let around = self.reference_scope_of(here.scope);
         let (reference_scope, parent) = if units.is_pattern(unit) {
-            (around, above)
+            (around, self.parent_of(around))
         } else {
             (self.scopes.len(), Some(around))
         };

@@ -2,7 +2,7 @@
 
 use crate::marks::{mark_row, spread};
 use crate::units::{Unit, Units};
-use rn_outline::PartKind;
+use rn_outline::FilePartKind;
 use std::alloc::{AllocError, Global};
 
 /// Of each file, whether the roots, or what they include, include it.
@@ -40,7 +40,7 @@ fn includes_of(alloc: Global, units: &Units<'_>, unit: &Unit) -> Result<Vec<usiz
     let mut files = Vec::new(alloc);
     for number in &unit.parts {
         if let (Some(file), Some(part)) = (units.target(unit, *number), units.part(unit, *number)) {
-            if matches!(&part.kind, PartKind::Include { .. }) {
+            if matches!(&part.kind, FilePartKind::Include { .. }) {
                 files.push(file)?;
             }
         }

@@ -4,7 +4,7 @@ ghost use Rattle.rn_scopes.specs.ScopeEntries.{entry_of};
 
 use crate::namespaces::Namespaces;
 use crate::own_names::Names;
-use rn_outline::PartKind;
+use rn_outline::FilePartKind;
 use std::collections::BTreeMap;
 
 /// The scope of the roots, whose names are as they are written.
@@ -128,12 +128,14 @@ impl Plan {
     }
 
     /// The index of the scope in which a part of a place means a name, or the start.
-    pub fn scope_meant(&self, place: usize, part: usize, kind: &PartKind) -> Option<usize> {
+    pub fn scope_meant(&self, place: usize, part: usize, kind: &FilePartKind) -> Option<usize> {
         let scope = self.places.get(place)?.scope;
         match kind {
-            PartKind::Reference { .. } => Some(self.reference_scope_of(scope)),
-            PartKind::Parent { .. } => self.parent_of(scope),
-            PartKind::External { .. } | PartKind::Grammar { .. } => self.leads_to(place, part),
+            FilePartKind::Reference { .. } => Some(self.reference_scope_of(scope)),
+            FilePartKind::Parent { .. } => self.parent_of(scope),
+            FilePartKind::External { .. } | FilePartKind::Grammar { .. } => self.leads_to(
+                place, part,
+            ),
             _ => None,
         }
     }

@@ -2,10 +2,10 @@
 ghost use Rattle.std.specs.Prelude.{◌≡◌, [], ◌∷◌, ◌++◌, All, IfOk, OnOk};
 ghost use Rattle.rn_scopes.specs.UnitFiles.{HasTargets, files_of};
 
-use crate::given::{Given, Lifting};
+use crate::input_files::{InputFile, Lifting};
 use crate::marks::{is_marked, marked_nodes, spread};
 use crate::own_names::written_name;
-use rn_outline::{Outline, Part, PartKind, Shape, Span};
+use rn_outline::{FilePart, FilePartKind, Outline, Shape, Span};
 use std::alloc::{AllocError, Global};
 
 /// A grammar of a file, or the pattern that a file is.
@@ -27,10 +27,11 @@ pub struct Unit {
 }
 
 impl Unit {
-    fn add(&mut self, part: usize, kind: &PartKind) -> Result<(), AllocError> {
+    fn add(&mut self, part: usize, kind: &FilePartKind) -> Result<(), AllocError> {
         match kind {
-            PartKind::External { .. } | PartKind::Grammar { .. } => self.needs_namespace = true,
-            PartKind::Parent { .. } => self.says_parent = true,
+            FilePartKind::External { .. } | FilePartKind::Grammar { .. } => self.needs_namespace =
+                true,
+            FilePartKind::Parent { .. } => self.says_parent = true,
             _ => {}
         }
         self.parts.push(part)?;
@@ -42,7 +43,7 @@ impl Unit {
 #[derive(Drop)]
 pub struct Units<'a> {
     /// The files, in the order in which they were given.
-    pub files: Vec<Given<'a>>,
+    pub files: Vec<InputFile<'a>>,
     /// The units of all files, those of the first file first.
     pub units: Vec<Unit>,
 }
@@ -71,7 +72,7 @@ impl<'a> Units<'a> {
     {
         let first = self.units.len();
         let number = self.files.len();
-        self.files.push(Given::of(alloc, file, first)?)?;
+        self.files.push(InputFile::of(alloc, file, first)?)?;
         self.add_units(alloc, number, file.outline)?;
         self.add_parts(first, file.outline)
     }
@@ -107,10 +108,10 @@ impl<'a> Units<'a> {
     }
 
     /// Notes what is in the unit of a nested grammar.
-    fn note_inside(&mut self, first: usize, kind: &PartKind)
+    fn note_inside(&mut self, first: usize, kind: &FilePartKind)
         ensures { self.new.files ≡ self.old.files }
     {
-        if let PartKind::Grammar { number, inside } = kind {
+        if let FilePartKind::Grammar { number, inside } = kind {
             if let Some(unit) = self.units.get_mut(first.saturating_add(*number)) {
                 unit.inside = *inside;
             }
@@ -125,7 +126,7 @@ impl<'a> Units<'a> {
     }
 
     /// The name that a part of a file defines or refers to; nothing, for a start.
-    pub fn name_meant(&self, file: usize, kind: &PartKind) -> &'a str {
+    pub fn name_meant(&self, file: usize, kind: &FilePartKind) -> &'a str {
         match self.files.get(file) {
             Some(given) => written_name(given.file.text, kind),
             None => "",
@@ -139,7 +140,7 @@ impl<'a> Units<'a> {
             .and_then(|file| self.files.get(file))
             .and_then(|given| given.part(part))
         {
-            Some(part) => matches!(&part.kind, PartKind::Include { .. }),
+            Some(part) => matches!(&part.kind, FilePartKind::Include { .. }),
             None => false,
         }
     }
@@ -190,7 +191,7 @@ impl<'a> Units<'a> {
     }
 
     /// The part of this index of a unit's file.
-    pub fn part(&self, unit: &Unit, number: usize) -> Option<&'a Part> {
+    pub fn part(&self, unit: &Unit, number: usize) -> Option<&'a FilePart> {
         self.files.get(unit.file)?.part(number)
     }
 
@@ -247,7 +248,7 @@ impl<'a> Units<'a> {
     fn used_unit(&self, unit: &Unit, part: usize) -> Option<usize> {
         let target = self.target(unit, part)?;
         match &self.part(unit, part)?.kind {
-            PartKind::External { .. } if !self.is_pattern_file(target) => None,
+            FilePartKind::External { .. } if !self.is_pattern_file(target) => None,
             _ => self.number(target, 0),
         }
     }

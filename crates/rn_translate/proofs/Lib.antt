@@ -1,1 +1,1 @@
-pub mod RisingPlaces
+pub mod RisingOrigins

@@ -68,21 +68,7 @@ impl Holder {
 
     /// Whether it needs a pattern or a name class.
     fn needs_members(self) -> bool {
-        matches!(
-            self.kind,
-            Kind::Element
-                | Kind::Group
-                | Kind::Interleave
-                | Kind::Choice
-                | Kind::Optional
-                | Kind::ZeroOrMore
-                | Kind::OneOrMore
-                | Kind::List
-                | Kind::Mixed
-                | Kind::Except
-                | Kind::Start
-                | Kind::Define
-        )
+        self.kind.is_compound() || matches!(self.kind, Kind::Except | Kind::Start | Kind::Define)
     }
 
     /// Why no element of this kind may be in it after so many children, of which one may be an except.

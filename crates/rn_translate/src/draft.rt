@@ -3,7 +3,7 @@ ghost use Rattle.std.specs.Prelude.{◌≡◌, ◌+◌, ◌≤◌, ◌++◌, IsT
 ghost use Rattle.std.specs.String.{string_len};
 ghost use Rattle.rn_text.specs.Literals.{literal_bytes};
 ghost use Rattle.rn_translate.specs.Limits.{max_text};
-ghost use Rattle.rn_translate.specs.Places.{AreRising, AreRising-prop, BeginsWithText, BeginsWithText-prop};
+ghost use Rattle.rn_translate.specs.Origins.{AreRising, AreRising-prop, BeginsWithText, BeginsWithText-prop};
 
 use crate::rng_fault::{RngFault, RngFaultKind};
 use rn_text::write_literal;
@@ -15,7 +15,7 @@ pub const MAX_TEXT: usize = 4_194_304;
 /// Where a piece of a compact text comes from: what begins at its byte `from`, up to the next piece, was made for byte
 /// `at` of the document's text.
 #[derive(Clone, Copy, Debug, PartialEq, Eq)]
-pub struct Place {
+pub struct Origin {
     /// The first byte of the piece in the compact text.
     pub from: usize,
     /// The byte of the document's text.
@@ -26,15 +26,15 @@ pub struct Place {
 #[derive(Drop)]
 pub(crate) struct Draft {
     pub text: String,
-    pub places: Vec<Place>,
+    pub origins: Vec<Origin>,
     /// How many bytes the document's text has.
     pub source_len: usize,
     /// The first byte with which a further piece may begin.
     next: usize,
     ghost small: { string_len text ≤ max_text },
     ghost near: { next ≤ string_len text + 1 },
-    ghost rising: { AreRising next source_len 0 places.items } by { AreRising-prop _ _ _ _ },
-    ghost begins: { BeginsWithText next (string_len text) places.items } by { BeginsWithText-prop _ _ _ },
+    ghost rising: { AreRising next source_len 0 origins.items } by { AreRising-prop _ _ _ _ },
+    ghost begins: { BeginsWithText next (string_len text) origins.items } by { BeginsWithText-prop _ _ _ },
 }
 
 impl Draft {
@@ -44,14 +44,14 @@ impl Draft {
     {
         Draft {
             text: String::new(alloc),
-            places: Vec::new(alloc),
+            origins: Vec::new(alloc),
             source_len,
             next: 0,
         }
     }
 
     /// Appends a text that is made for a place. A place after the document's text is its end.
-    #[tactic(auto, using(crate::proofs::RisingPlaces::begins_on))]
+    #[tactic(auto, using(crate::proofs::RisingOrigins::begins_on))]
     pub fn put(&mut self, at: usize, text: &str) -> Result<(), RngFault>
         ensures text { OnOk result (string_bytes self.new.text
             ≡ string_bytes self.old.text ++ text.now) }
@@ -64,29 +64,29 @@ impl Draft {
         if text.len() > MAX_TEXT - from {
             return Err(RngFault::new(at, RngFaultKind::Large));
         }
-        self.add_place(from, at)?;
+        self.add_origin(from, at)?;
         self.text.push_str(text)?;
         Ok(())
     }
 
-    /// Adds the place of a piece that begins here or later, if it isn't that of the piece before.
-    fn add_place(&mut self, from: usize, at: usize) -> Result<(), RngFault>
+    /// Adds the origin of a piece that begins here or later, if it isn't that of the piece before.
+    fn add_origin(&mut self, from: usize, at: usize) -> Result<(), RngFault>
         requires { from ≤ string_len self.old.text }
         ensures text { self.new.text ≡ self.old.text }
         ensures source { self.new.source_len ≡ self.old.source_len }
-        ensures begun { OnOk result (1 ≤ vec_len self.new.places) }
+        ensures begun { OnOk result (1 ≤ vec_len self.new.origins) }
     {
         let at = at.min(self.source_len);
         if from < self.next || self.is_last(at) {
             return Ok(());
         }
-        self.places.push(Place { from, at })?;
+        self.origins.push(Origin { from, at })?;
         self.next = from + 1;
         Ok(())
     }
 
-    /// Appends a text with its places.
-    #[tactic(auto, using(crate::proofs::RisingPlaces::begins_on, crate::proofs::RisingPlaces::all_before))]
+    /// Appends a text with its origins.
+    #[tactic(auto, using(crate::proofs::RisingOrigins::begins_on, crate::proofs::RisingOrigins::all_before))]
     pub fn append(&mut self, other: &Draft) -> Result<(), RngFault>
         ensures text { OnOk result (string_bytes self.new.text
             ≡ string_bytes self.old.text ++ string_bytes other.now.text) }
@@ -99,20 +99,20 @@ impl Draft {
         if other.text.len() > MAX_TEXT - before {
             return Err(RngFault::new(0, RngFaultKind::Large));
         }
-        let first = other.places.first().map_or(0, |place| place.at);
-        self.add_place(before, first)?;
+        let first = other.origins.first().map_or(0, |origin| origin.at);
+        self.add_origin(before, first)?;
         self.text.push_str(other.text.as_str())?;
-        'places: for place in &other.places {
-            self.add_place(before + place.from, place.at)?;
+        'origins: for origin in &other.origins {
+            self.add_origin(before + origin.from, origin.at)?;
         }
         Ok(())
     }
 
     /// Whether the piece before is that of this place.
     fn is_last(&self, at: usize) -> bool
-        ensures { IsTrue result → 1 ≤ vec_len self.now.places }
+        ensures { IsTrue result → 1 ≤ vec_len self.now.origins }
     {
-        match self.places.last() {
+        match self.origins.last() {
             Some(last) => last.at == at,
             None => false,
         }

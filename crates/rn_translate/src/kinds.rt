@@ -63,41 +63,42 @@ pub enum Kind {
     Foreign,
 }
 
+/// The elements of RELAX NG.
+static ELEMENTS: [Kind; 28] = [
+    Kind::Element,
+    Kind::Attribute,
+    Kind::Group,
+    Kind::Interleave,
+    Kind::Choice,
+    Kind::Optional,
+    Kind::ZeroOrMore,
+    Kind::OneOrMore,
+    Kind::List,
+    Kind::Mixed,
+    Kind::Ref,
+    Kind::ParentRef,
+    Kind::Empty,
+    Kind::Text,
+    Kind::Value,
+    Kind::Data,
+    Kind::NotAllowed,
+    Kind::ExternalRef,
+    Kind::Grammar,
+    Kind::Param,
+    Kind::Except,
+    Kind::Start,
+    Kind::Define,
+    Kind::Div,
+    Kind::Include,
+    Kind::Name,
+    Kind::AnyName,
+    Kind::NsName,
+];
+
 impl Kind {
     /// The element of RELAX NG that has this local name.
     pub fn of_name(local: &str) -> Option<Kind> {
-        let kind = match local.as_bytes() {
-            b"element" => Kind::Element,
-            b"attribute" => Kind::Attribute,
-            b"group" => Kind::Group,
-            b"interleave" => Kind::Interleave,
-            b"choice" => Kind::Choice,
-            b"optional" => Kind::Optional,
-            b"zeroOrMore" => Kind::ZeroOrMore,
-            b"oneOrMore" => Kind::OneOrMore,
-            b"list" => Kind::List,
-            b"mixed" => Kind::Mixed,
-            b"ref" => Kind::Ref,
-            b"parentRef" => Kind::ParentRef,
-            b"empty" => Kind::Empty,
-            b"text" => Kind::Text,
-            b"value" => Kind::Value,
-            b"data" => Kind::Data,
-            b"notAllowed" => Kind::NotAllowed,
-            b"externalRef" => Kind::ExternalRef,
-            b"grammar" => Kind::Grammar,
-            b"param" => Kind::Param,
-            b"except" => Kind::Except,
-            b"start" => Kind::Start,
-            b"define" => Kind::Define,
-            b"div" => Kind::Div,
-            b"include" => Kind::Include,
-            b"name" => Kind::Name,
-            b"anyName" => Kind::AnyName,
-            b"nsName" => Kind::NsName,
-            _ => return None,
-        };
-        Some(kind)
+        ELEMENTS.iter().find(|kind| kind.name() == local).copied()
     }
 
     /// The local name of the element.
@@ -133,6 +134,22 @@ impl Kind {
             Kind::NsName => "nsName",
             Kind::Foreign => "an annotation",
         }
+    }
+
+    /// Whether the element is a pattern that other patterns make up, of which it has at least one.
+    pub fn is_compound(self) -> bool {
+        matches!(
+            self,
+            Kind::Element
+                | Kind::Group
+                | Kind::Interleave
+                | Kind::Choice
+                | Kind::Optional
+                | Kind::ZeroOrMore
+                | Kind::OneOrMore
+                | Kind::List
+                | Kind::Mixed
+        )
     }
 
     /// Whether the element holds a text (`name`, `value` and `param`).
@@ -180,26 +197,18 @@ impl Role {
 
 /// Whether an element of this kind is a pattern.
 fn is_pattern(kind: Kind) -> bool {
-    matches!(
-        kind,
-        Kind::Element
-            | Kind::Attribute
-            | Kind::Group
-            | Kind::Interleave
-            | Kind::Choice
-            | Kind::Optional
-            | Kind::ZeroOrMore
-            | Kind::OneOrMore
-            | Kind::List
-            | Kind::Mixed
-            | Kind::Ref
-            | Kind::ParentRef
-            | Kind::Empty
-            | Kind::Text
-            | Kind::Value
-            | Kind::Data
-            | Kind::NotAllowed
-            | Kind::ExternalRef
-            | Kind::Grammar
-    )
+    kind.is_compound()
+        || matches!(
+            kind,
+            Kind::Attribute
+                | Kind::Ref
+                | Kind::ParentRef
+                | Kind::Empty
+                | Kind::Text
+                | Kind::Value
+                | Kind::Data
+                | Kind::NotAllowed
+                | Kind::ExternalRef
+                | Kind::Grammar
+        )
 }

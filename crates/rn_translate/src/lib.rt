@@ -19,8 +19,8 @@ mod translator;
 mod uris;
 mod written_names;
 
-pub use draft::{MAX_TEXT, Place};
+pub use draft::{MAX_TEXT, Origin};
 pub use kinds::Kind;
 pub use rng_fault::{RngFault, RngFaultKind};
-pub use translated::{Places, Translated};
+pub use translated::{Origins, Translated};
 pub use translation::compact_text;

@@ -2,11 +2,11 @@
 ghost use Rattle.std.specs.Prelude.{◌≡◌, ◌≤◌, length, IfErr, IfOk};
 ghost use Rattle.std.specs.String.{string_len};
 ghost use Rattle.rn_translate.specs.Limits.{max_text};
-ghost use Rattle.rn_translate.specs.Places.{ArePlaces};
+ghost use Rattle.rn_translate.specs.Origins.{AreOrigins};
 
 use crate::draft::Draft;
 use crate::rng_fault::RngFault;
-use crate::translated::{Places, Translated};
+use crate::translated::{Origins, Translated};
 use crate::translator::Translator;
 use crate::uris::{BoundUri, Uri, Uris};
 use rn_xml::XmlDocument;
@@ -19,21 +19,21 @@ use std::alloc::Global;
 ///
 /// Refused at the first place where the document is no schema in the XML syntax, where the text would have more than
 /// [`MAX_TEXT`](crate::MAX_TEXT) bytes, and wherever memory is.
-#[tactic(auto, using(crate::proofs::RisingPlaces::in_order_of_draft, crate::proofs::RisingPlaces::pieces_of_draft))]
+#[tactic(auto, using(crate::proofs::RisingOrigins::in_order_of_draft, crate::proofs::RisingOrigins::pieces_of_draft))]
 pub fn compact_text(
     alloc: Global,
     source: &str,
     document: &XmlDocument<'_>,
 ) -> Result<Translated, RngFault>
     ensures small { IfOk result (λ made. string_len made.text ≤ max_text) }
-    ensures places { IfOk result (λ made. ArePlaces (string_len made.text) (length source.now)
-        made.places.items.items) }
+    ensures origins { IfOk result (λ made. AreOrigins (string_len made.text) (length source.now)
+        made.origins.items.items) }
     ensures fault { IfErr result (λ fault. fault.at ≤ length source.now) }
 {
     match whole_text(alloc, source, document) {
-        Ok(Draft { text, places, .. }) => Ok(Translated {
+        Ok(Draft { text, origins, .. }) => Ok(Translated {
             text,
-            places: Places { items: places },
+            origins: Origins { items: origins },
         }),
         Err(RngFault { at, kind }) => Err(RngFault {
             at: at.min(source.len()),

@@ -3,14 +3,14 @@
 
 mod standard;
 mod system;
-mod written;
+mod system_outputs;
 
 use crate::standard::Standard;
 use crate::system::System;
-use crate::written::Written;
+use crate::system_outputs::SystemOutputs;
 use rn_flat::{
-    ColourChoice, Colours, Ending, FlatFault, Format, Job, STANDARD_OUTPUT, Words, WordsFault,
-    WriteFault, ending_status, fault_lines, perform, read_words, status, unwritten_fault,
+    ColourChoice, Colours, Ending, FlatFault, Format, Job, STANDARD_OUTPUT, Words, WriteFault,
+    ending_status, fault_lines, perform, read_words, status, unwritten_fault,
 };
 use rn_merge::{Output, write_output};
 use std::env;
@@ -31,8 +31,7 @@ fn main(rt: HostRuntime) -> ExitCode {
     match read_words(rt.alloc(), words.as_slice()) {
         Ok(Words::Shown(text)) => show(&rt, text.as_str()),
         Ok(Words::Job(job)) => run(&rt, &job),
-        Err(WordsFault::Usage(lines)) => report(&rt, &FlatFault::Usage(lines), PLAIN),
-        Err(WordsFault::Memory) => report(&rt, &FlatFault::Memory, PLAIN),
+        Err(fault) => report(&rt, &fault, PLAIN),
     }
 }
 
@@ -45,7 +44,7 @@ fn run(rt: &HostRuntime, job: &Job) -> ExitCode {
         &System { rt },
         job,
         format,
-        &mut Written { rt },
+        &mut SystemOutputs { rt },
         &mut out,
     );
     match (done, out.reason()) {

@@ -1,7 +1,7 @@
 // Standard output, as a sink that keeps why it failed.
 ghost use Rattle.std.specs.Prelude.{◌≡◌, false, is_some};
 
-use crate::written::fault_of;
+use crate::system_outputs::fault_of;
 use rn_flat::WriteFault;
 use rn_merge::{Failed, Sink};
 use std::io::{Stdout, Write};

@@ -12,7 +12,7 @@ fn comes_from(rt: &(impl Abort + AllocGlobal), made: &str, written: &str) {
     let schema = translated(rt, SCHEMA).expect(rt, "no text");
     let at = schema.text.as_str().find(made).expect(rt, "not made");
     let from = SCHEMA.find(written).expect(rt, "not written");
-    assert_eq!(rt; schema.places.origin(at), from, "{made}");
+    assert_eq!(rt; schema.origins.origin(at), from, "{made}");
 }
 
 #[test]

@@ -1,18 +1,8 @@
 -- Refusals of references.
 use Rattle.std.proofs.Common.{◌≡◌, ℕ, suc, ◌-◌, List, [], get_or, arith}
 use Rattle.rn_text.specs.Texts.{Text}
-use Rattle.rn_assemble.specs.Components.{Component}
 use Rattle.rn_assemble.specs.inside.Keyed.{IsNameNumber}
-use Rattle.rn_assemble.specs.inside.Referred.{IsLeastUndefined}
-use Rattle.rn_assemble.specs.inside.Sound.{IsUnsound}
-use Rattle.rn_assemble.specs.declared.refusal.Refusal.{Refusal}
-use Rattle.rn_assemble.specs.declared.refusal.Refusal.TheVariants as r
 use Rattle.rn_assemble.proofs.Referring.KeyNumbers.{name_at}
-
-pub unsound : (cs : List Component) (q : Refusal) → IsLeastUndefined cs q → IsUnsound cs q
-unsound cs (r.Undefined x) h = h
-unsound cs r.Memory h = tt
-unsound cs q h = absurd h
 
 -- the name of a number
 pub name_there : (names : List Text) (x : Text) (n : ℕ) → IsNameNumber names x n → get_or names (n - 1) [] ≡ x

@@ -4,8 +4,7 @@ use Rattle.std.specs.Prelude.{slice_get}
 use Rattle.std.specs.List.Sorted.{IsNonDecreasingBy, IsPartitionedBy, IsPartitionPoint}
 use Rattle.std.proofs.lemmas.List.Sorted.{IsPartitionedBy-leb}
 use Rattle.std.proofs.lemmas.Bool.{cases_lt, false≢true, le-leb, leb-true, leb-false}
-use Rattle.std.proofs.lemmas.Grind.{flat_map-append}
-use Rattle.std.proofs.lemmas.List.{append-nil, length-append, length-map}
+use Rattle.std.proofs.lemmas.List.{length-append, length-map}
 use Rattle.rn_assemble.specs.declared.bodies.Body.{Body}
 use Rattle.rn_assemble.specs.declared.bodies.ModuleBodies.{ModuleBodies}
 use Rattle.rn_assemble.specs.declared.contents.WrittenComponent as code
@@ -113,6 +112,3 @@ body_got rs all number k d h x = got_from 0 rs all k number d h x.within (x.begi
 pub counted_more : (n : ℕ) (rs : List ModuleBodies) (all more : ℕ) (r : ModuleBodies) → AreCounted n rs all → r.first ≡ all → more ≡ all + count r → AreCounted n (rs ++ r ∷ []) more
 counted_more n [] all more r h f m = (f ∙ sym h, omega (arith, h, m))
 counted_more n (q ∷ rs) all more r h f m = (h.0, counted_more (n + count q) rs all more r h.1 f m)
-
-pub bodies_more : (rs : List ModuleBodies) (r : ModuleBodies) → bodies_in (rs ++ r ∷ []) ≡ bodies_in rs ++ own r
-bodies_more rs r = flat_map-append own rs (r ∷ []) ∙ ap (λ l. bodies_in rs ++ l) (append-nil (own r))

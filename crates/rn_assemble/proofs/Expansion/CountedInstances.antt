@@ -12,9 +12,6 @@ pub record CountsTo (rows : List (List ℕ)) (most count i : ℕ) (xs : List ℕ
   pub up_to : count ≤ most
   pub counted : (depth : ℕ) → most ≤ suc depth → count ≡ min most (1 + sum_by (instances_of depth rows) (take i xs))
 
-pub counts_none : (rows : List (List ℕ)) (most : ℕ) (xs : List ℕ) → 0 < most → CountsTo rows most 1 0 xs
-counts_none rows most xs h = record { some = omega arith; up_to = omega (arith, h); counted = λ d l. omega (arith, h) }
-
 pub counts_more : (rows : List (List ℕ)) (most count i r : ℕ) (xs : List ℕ) → i < length xs → CountsTo rows most count i xs → r ≤ most - count
     → ((depth : ℕ) → most - count ≤ depth → r ≡ min (most - count) (instances_of depth rows (get_or xs i 0))) → CountsTo rows most (count + r) (i + 1) xs
 counts_more rows most count i r xs h c u g = record {

@@ -1,5 +1,5 @@
 -- Steps of expanding: bodies of a context, components added one after the other, and those that are taken out.
-use Rattle.std.proofs.Common.{◌≡◌, ℕ, ◌+◌, ◌-◌, ◌<◌, ◌≤◌, Bool, true, false, ◌||◌, cond, List, [], ◌∷◌, ◌++◌, length, get_or, take, drop, map, filter, refl, sym, ap, ◌∙◌, subst, arith, append-nil, append_assoc, Contains, length-drop}
+use Rattle.std.proofs.Common.{◌≡◌, ℕ, ◌+◌, ◌-◌, ◌<◌, ◌≤◌, Bool, true, false, ◌||◌, cond, List, [], ◌∷◌, ◌++◌, length, get_or, take, drop, map, filter, refl, sym, ap, ◌∙◌, subst, arith, append-nil, append_assoc, length-drop}
 use Rattle.std.specs.Rc.{rc_str_bytes}
 use Rattle.std.specs.Prelude.{not, ◌==◌, slice_range}
 use Rattle.std.specs.List.{AllByRecursion, list_any}
@@ -7,7 +7,6 @@ use Rattle.std.proofs.lemmas.List.{length-map, map-append, length-append, get_or
 use Rattle.std.proofs.lemmas.List.Elements.{All-from_recursion}
 use Rattle.rn_text.specs.Texts.{Text}
 use Rattle.rn_pattern.proofs.Ordered.Ascending.{each_behind}
-use Rattle.rn_pattern.proofs.Ordered.InOrder.{contained_each}
 use Rattle.rn_syntax.specs.Tree.{Declaration}
 use Rattle.rn_assemble.specs.declared.context.Context.{Context}
 use Rattle.rn_assemble.specs.declared.contents.WrittenComponent as code
@@ -52,11 +51,6 @@ one_item contents i c d h k = sym (h.is c) ∙ k.is c
 
 pub context_made : (contents : List Contents) (bodies : List Body) (q : MetContext) (content : Contents) → IsContentAt contents q.module content → StartsAt bodies q.first content (rc_str_bytes q.inherited.now) → ContextHolds contents bodies q
 context_made contents bodies q content i h = λ d k. subst (λ (c : Contents). StartsAt bodies q.first c (rc_str_bytes q.inherited.now)) (one_item contents q.module content d i k) h
-
-pub context_found : (contents : List Contents) (bodies : List Body) (qs : List MetContext) (q : MetContext) (m first : ℕ) (u : Text) (content : Contents) → AllByRecursion (ContextHolds contents bodies) qs → Contains qs q → q.module ≡ m → (rc_str_bytes q.inherited.now) ≡ u → q.first ≡ first → IsContentAt contents m content → StartsAt bodies first content u
-context_found contents bodies qs q m first u content h c em eu ef i =
-    let s = contained_each (ContextHolds contents bodies) qs h q c content (subst (λ n. IsContentAt contents n content) (sym em) i) in
-    subst (λ n. StartsAt bodies n content u) ef (subst (λ v. StartsAt bodies q.first content v) eu s)
 
 -- a part of a list, with one element more
 pub range_none : {X : Type 0} (xs : List X) (a : ℕ) → slice_range xs a a ≡ []

@@ -125,9 +125,6 @@ empty_push [] r h e (suc k) = refl
 empty_push (p ∷ rows) r h e zero = h 0
 empty_push (p ∷ rows) r h e (suc k) = empty_push rows r (λ j. h (suc j)) e k
 
-pub lists_none : {trees : TreeView} (names : List Text) (rows : List (List ℕ)) → length rows ≡ suc (length names) → ((k : ℕ) → row rows k ≡ []) → ListsBy names trees [] [] rows []
-lists_none names rows l h = record { size = l; are = tt; rises = tt; places = λ k m. h k }
-
 -- the last of a list
 pub last_there : (xs : List ℕ) (x : ℕ) → Some x ≡ slice_get xs (length xs - 1) → (0 < length xs) × (get_or xs (length xs - 1) 0 ≡ x)
 last_there xs x e = elim ((slice_get_cases xs (length xs - 1)).1) [

@@ -53,13 +53,6 @@ notes_both P Q old mid new h k = record {
   least = λ l. ⊎_elim (λ p. held_on Q mid new l k (h.least l p)) (λ q. k.least l q);
 }
 
--- one lack is met: the held one stays, or the new one takes its place
-pub notes_kept : (held l : Lack) → IsUpTo held l → Notes (λ m. m ≡ l) (Some held) (Some held)
-notes_kept held l h = record { one = λ m e. inl e; still = held_same (Some held); least = λ m e. subst (λ k. IsUpTo held k) (sym e) h }
-
-pub notes_new : (o : Option Lack) (l : Lack) → ((h : Lack) → o ≡ Some h → IsUpTo l h) → Notes (λ m. m ≡ l) o (Some l)
-notes_new o l f = record { one = λ m e. let same : m ≡ l = cc in inr same; still = f; least = λ m e. subst (λ k. IsUpTo l k) (sym e) (up_to_same l) }
-
 -- lacks that one of these brings, and those of one more
 abbrev pub SomeLacks : {X : Type 0} → (X → Text → Key → Type 0) → List X → Text → Key → Type 0
 SomeLacks {X} P xs y k = (x : X) × Contains xs x × P x y k

@@ -4,11 +4,11 @@ use Rattle.std.specs.Prelude.{slice_get}
 use Rattle.std.specs.List.Sorted.{IsNonDecreasingBy, IsPartitionedBy, IsPartitionPoint}
 use Rattle.std.proofs.lemmas.List.Sorted.{IsPartitionedBy-leb}
 use Rattle.std.proofs.lemmas.Bool.{cases_lt, false≢true, le-leb, leb-true, leb-false, lt-leb}
-use Rattle.std.proofs.lemmas.List.{length_push, get_or_append_left, get_or_default, get_or_push, take_all, take_more}
+use Rattle.std.proofs.lemmas.List.{length_push, get_or_append_left, get_or_push, take_all, take_more}
 use Rattle.std.proofs.Math.Seq.{take-append_seam}
 use Rattle.std.proofs.lemmas.Option.{slice_get-get_or, slice_get_past}
 use Rattle.rn_assemble.specs.declared.number_runs.Run.{Run}
-use Rattle.rn_assemble.specs.inside.NumberRuns.{AreRuns, ContinuesWith, HasIndex, HaveIndex, LastBeginsAt, number_at, numbers, run_from}
+use Rattle.rn_assemble.specs.inside.NumberRuns.{AreRuns, ContinuesWith, HasIndex, HaveIndex, LastBeginsAt, number_at, numbers}
 
 pub length-numbers : (rs : List Run) (n : ℕ) → length (numbers rs n) ≡ n
 length-numbers rs zero = refl
@@ -54,11 +54,6 @@ number_found rs n i k e h x = found 0 rs i k e x.within (x.begins e) (λ j f l m
   | inr b ↦ let same : k + 1 ≡ j = omega (arith, l, b) in subst (λ p. i < (get_or rs p f).first) same (x.ends f (omega (arith, m, same)))
 ])
 
-pub runs_have : (rs : List Run) (n i : ℕ) → AreRuns rs n → i < n → HaveIndex rs i
-runs_have rs n i h l =
-    let some = h.some (omega (arith, l)) in
-    record { some = some; begins = λ d. omega (arith, h.begins d some); rises = h.rises }
-
 nondecreasing : (rs : List Run) (i : ℕ) → HaveIndex rs i → IsNonDecreasingBy (λ (r : Run). r.first) rs
 nondecreasing rs i h j k d l m = elim (cases_lt j k) [
   | inl b ↦ omega (arith, h.rises j k d b m)
@@ -103,20 +98,6 @@ last_at rs r d = get_or_push rs r d (length rs) refl
 
 back_own : (rs : List Run) (r : Run) → number_at 0 (rs ++ r ∷ []) r.first ≡ r.start
 back_own rs r = back 0 rs r r.first (omega arith) ∙ omega arith
-
--- ---- one run alone
-
-pub run_number : (s i : ℕ) → number_at 0 (run_from s) i ≡ s + i
-run_number s i = back 0 [] (record { first = 0; start = s }) i (omega arith) ∙ omega arith
-
-pub is_one_run : (s n : ℕ) → 0 < n → s + n ≤ 2 ^ 64 → AreRuns (run_from s) n
-is_one_run s n l f = record {
-  some = λ _. omega arith;
-  begins = λ d _. refl;
-  rises = λ j k d l m. absurd (omega (arith, l, m));
-  within = λ k d m. let q : 0 ≡ k = omega (arith, m) in subst (λ p. (get_or (run_from s) p d).first < n) q l;
-  fits = λ i l. subst (λ x. x < 2 ^ 64) (sym (run_number s i)) (omega (arith, l, f));
-}
 
 -- ---- one run behind others
 
@@ -211,24 +192,6 @@ run_longer rs n m x d s h c f = record {
 
 pub numbers_longer : (rs : List Run) (n m x : ℕ) (d : Run) → m ≡ n + 1 → AreRuns rs n → ContinuesWith rs n x → numbers rs m ≡ numbers rs n ++ x ∷ []
 numbers_longer rs n m x d s h c = ap (numbers rs) (s ∙ next n) ∙ ap (λ y. numbers rs n ++ y ∷ []) (continued rs n x d h c)
-
-pub run_shorter : (rs : List Run) (n m : ℕ) → m ≡ n + 1 → AreRuns rs m → ¬ LastBeginsAt rs n → AreRuns rs n
-run_shorter rs n m s h other =
-    let some = h.some (omega (arith, s)) in
-    let last : (d : Run) → (get_or rs (length rs - 1) d).first < n = λ d. elim (cases_lt (get_or rs (length rs - 1) d).first n) [
-      | inl b ↦ b
-      | inr b ↦ absurd (other (record { some = some; is = λ f. subst (λ (x : Run). x.first ≡ n) (get_or_default rs (length rs - 1) d f (omega (arith, some))) (omega (arith, b, s, h.within (length rs - 1) d (omega (arith, some)))) }))
-    ] in
-    record {
-      some = λ _. some;
-      begins = h.begins;
-      rises = h.rises;
-      within = λ k d l. elim (cases_lt k (length rs - 1)) [
-        | inl b ↦ omega (arith, h.rises k (length rs - 1) d b (omega (arith, some)), last d)
-        | inr b ↦ let q : length rs - 1 ≡ k = omega (arith, l, b) in subst (λ p. (get_or rs p d).first < n) q (last d)
-      ];
-      fits = λ i l. h.fits i (omega (arith, l, s));
-    }
 
 pub numbers_popped : (rs : List Run) (n m : ℕ) → m ≡ n + 1 → take (length (numbers rs m) - 1) (numbers rs m) ≡ numbers rs n
 numbers_popped rs n m s =

@@ -1,6 +1,5 @@
 -- Lists of patterns and name classes, resolved one after the other.
-use Rattle.std.proofs.Common.{◌≡◌, ℕ, ◌+◌, ◌<◌, List, [], ◌∷◌, ◌++◌, length, get_or, take, map, refl, sym, ap, ◌∙◌}
-use Rattle.std.proofs.lemmas.List.{take_more, map-append}
+use Rattle.std.proofs.Common.{◌≡◌, List, [], ◌∷◌, map, refl, sym, ap, ◌∙◌}
 use Rattle.std.specs.Prelude.{Box, Vec}
 use Rattle.std.specs.declared.alloc.Global.{Global}
 use Rattle.rn_pattern.specs.Tree.{more_names, more_trees, name_trees_of, trees_of}
@@ -16,13 +15,6 @@ use Rattle.rn_syntax.specs.declared.tree.Pat.TheOpen.{Pat-F}
 use Rattle.rn_syntax.specs.declared.tree.Pat.TheVariants.{rolls-Repeated, rolls-Chain}
 use Rattle.rn_syntax.specs.declared.tree.Pat.TheViews as written
 use Rattle.rn_assemble.specs.Resolve.{resolved_class, resolved_classes, resolved_pattern, resolved_patterns}
-
--- the images of one element more
-pub mapped_more : {A B C : Type 0} (f : A → C) (g : B → C) (xs : List A) (k : ℕ) (x : A) (ys ys' : List B) (y : B)
-    → k < length xs → x ≡ get_or xs k x → map g ys ≡ map f (take k xs) → ys' ≡ ys ++ y ∷ [] → g y ≡ f x → map g ys' ≡ map f (take (k + 1) xs)
-mapped_more f g xs k x ys ys' y h e before push here =
-    ap (map g) push ∙ map-append g ys (y ∷ []) ∙ (λ i. before i ++ here i ∷ [])
-    ∙ sym (ap (map f) (take_more xs k x h ∙ ap (λ z. take k xs ++ z ∷ []) (sym e)) ∙ map-append f (take k xs) (x ∷ []))
 
 pub classes_resolved : (inherited : Text) (ds : List Declaration) (own : Text) (cs : List Nc) → name_trees_of (map (λ c. resolved_class inherited ds own (class_view c)) cs) ≡ resolved_classes inherited ds own (classes_view cs)
 classes_resolved inherited ds own [] = refl

@@ -42,11 +42,6 @@ method_of names bodies list rows live e n b h c en eb =
     let made = live_body names bodies list rows live e n b h c en eb in
     sym (ap (λ (d : Component). d.method) made.shown.2)
 
-pub method_there : {trees : TreeView} (names : List Text) (bodies : List Body) (list : List ℕ) (rows : List (List ℕ)) (live : List Live) (e : Live) → ListsBy names trees bodies list rows live → Contains live e → slice_get list e.place ≡ None → ⊥
-method_there {trees = trees} names bodies list rows live e h c en =
-    let s = shown names trees bodies list e (contained_each (IsLive names trees bodies list) live h.are e c) in
-    let q : Some s.number ≡ None = sym s.at ∙ en in cc
-
 pub body_there : {trees : TreeView} (names : List Text) (bodies : List Body) (list : List ℕ) (rows : List (List ℕ)) (live : List Live) (e : Live) (n : ℕ) → ListsBy names trees bodies list rows live → Contains live e → slice_get list e.place ≡ Some n → slice_get bodies n ≡ None → ⊥
 body_there {trees = trees} names bodies list rows live e n h c en eb =
     let s = shown names trees bodies list e (contained_each (IsLive names trees bodies list) live h.are e c) in

@@ -12,10 +12,6 @@ abbrev pub numbers : List Run → ℕ → List ℕ
 numbers rs zero = []
 numbers rs (suc n) = numbers rs n ++ number_at 0 rs n ∷ []
 
--- the one run from a number on
-abbrev pub run_from : ℕ → List Run
-run_from s = record { first = 0; start = s } ∷ []
-
 -- the runs are those of n numbers: the first begins at 0, and each before those behind it
 pub record AreRuns (rs : List Run) (n : ℕ) : Type 0 where
   pub some : 0 < n → 0 < length rs

@@ -2,10 +2,10 @@
 use Rattle.std.proofs.Common.{ℕ, List, Option, Some, None}
 use Rattle.std.specs.Prelude.{unwrap_or, slice_get, string_bytes}
 use Rattle.std.proofs.lemmas.List.Elements.{All-weaker}
-use Rattle.rn_outline.specs.declared.file_parts.Part.{Part}
-use Rattle.rn_outline.specs.declared.file_parts.PartKind.{PartKind}
-use Rattle.rn_outline.specs.declared.file_parts.PartKind.TheVariants.{Define, Start, Reference, Parent, External, Include, Grammar}
-use Rattle.rn_scopes.specs.declared.given.Lifting.{Lifting}
+use Rattle.rn_outline.specs.declared.file_parts.FilePart.{FilePart}
+use Rattle.rn_outline.specs.declared.file_parts.FilePartKind.{FilePartKind}
+use Rattle.rn_outline.specs.declared.file_parts.FilePartKind.TheVariants.{Define, Start, Reference, Parent, External, Include, Grammar}
+use Rattle.rn_scopes.specs.declared.input_files.Lifting.{Lifting}
 use Rattle.rn_lift.specs.LiftedModules.{IsModuleOf}
 use Rattle.rn_lift.specs.StandIns.{IsEdit, IsIncluded, IsLifted, Modules, Scopes, StandsForKind}
 use Rattle.rn_lift.specs.declared.edits.Edit.{Edit}
@@ -39,7 +39,7 @@ lifted m n s t f g start named grammar text h = record {
   is_reference = h.is_reference;
 }
 
-stands : (m n : Modules) (s t : Scopes) → Carries m n → CarriesScopes s t → (start : List ℕ) (b : Basis) (named : Option ℕ) (kind : PartKind) (text : List ℕ) → StandsForKind m s start b named kind text → StandsForKind n t start b named kind text
+stands : (m n : Modules) (s t : Scopes) → Carries m n → CarriesScopes s t → (start : List ℕ) (b : Basis) (named : Option ℕ) (kind : FilePartKind) (text : List ℕ) → StandsForKind m s start b named kind text → StandsForKind n t start b named kind text
 stands m n s t f g start b named (Include l a i) text h = included m n f b.scope named text h
 stands m n s t f g start b named (External l a i) text h = lifted m n s t f g start named 0 text h
 stands m n s t f g start b named (Grammar number i) text h = lifted m n s t f g start (Some b.file) number text h
@@ -48,7 +48,7 @@ stands m n s t f g start b named (Start w i j k l) text h = h
 stands m n s t f g start b named (Define w i j k l) text h = h
 stands m n s t f g start b named (Reference i) text h = h
 
-edit : (m n : Modules) (s t : Scopes) → Carries m n → CarriesScopes s t → (start : List ℕ) (b : Basis) (parts : List Part) (named : List (Option ℕ)) (e : Edit) → IsEdit m s start b parts named e → IsEdit n t start b parts named e
+edit : (m n : Modules) (s t : Scopes) → Carries m n → CarriesScopes s t → (start : List ℕ) (b : Basis) (parts : List FilePart) (named : List (Option ℕ)) (e : Edit) → IsEdit m s start b parts named e → IsEdit n t start b parts named e
 edit m n s t f g start b parts named e h = record {
   part = h.part;
   is_part = h.is_part;

@@ -8,8 +8,8 @@ use Rattle.std.proofs.lemmas.List.Sorted.{All-permutation, Contains-permutation}
 use Rattle.rn_outline.specs.Links.{targets_of}
 use Rattle.rn_scopes.specs.UnitFiles.{HasTargets, files_of}
 use Rattle.rn_scopes.specs.declared.lift_fault.LiftFault.{LiftFault}
-use Rattle.rn_scopes.specs.declared.given.Given.{Given}
-use Rattle.rn_scopes.specs.declared.given.Lifting.{Lifting}
+use Rattle.rn_scopes.specs.declared.input_files.InputFile.{InputFile}
+use Rattle.rn_scopes.specs.declared.input_files.Lifting.{Lifting}
 use Rattle.rn_scopes.specs.declared.scopes.PlacedUnit.{PlacedUnit}
 use Rattle.rn_scopes.specs.declared.scopes.Plan.{Plan}
 use Rattle.rn_scopes.specs.declared.scopes.Scope.{Scope}
@@ -81,7 +81,7 @@ by_files units plan files ms e targets each brought m w b is_basis =
     let basis : Basis = basis_of w.1.unit w.1.place in
     let same : basis ≡ b = cc (w.1.is_basis, is_basis) in
     let g = w.1.given in
-    let is_file : slice_get files basis.file ≡ Some g.file = ap (λ (fs : List Lifting). slice_get fs basis.file) (sym e) ∙ slice_get-map (λ (x : Given). x.file) units.files.items basis.file ∙ ap (λ (o : Option Given). option_map (λ (x : Given). x.file) o) w.1.is_place_with_file.is_given in
+    let is_file : slice_get files basis.file ≡ Some g.file = ap (λ (fs : List Lifting). slice_get fs basis.file) (sym e) ∙ slice_get-map (λ (x : InputFile). x.file) units.files.items basis.file ∙ ap (λ (o : Option InputFile). option_map (λ (x : InputFile). x.file) o) w.1.is_place_with_file.is_given in
     let named : HasTargets g = subst HasTargets (get_or_from_slice_get units.files.items basis.file g g w.1.is_place_with_file.is_given) (All-get_or HasTargets units.files.items basis.file g (slice_get_within units.files.items basis.file g w.1.is_place_with_file.is_given) targets) in
     let made = carried (IsPlanned units plan) (HasModule ms) (IsPlannedScope plan) (HasScope ms (stems_of plan)) (has_module units plan ms each) (has_scope plan ms brought) (string_bytes plan.names.start) g.file g.targets.items basis (string_bytes m.text) w.1.is_module in
     let by_targets = subst (λ (ts : List (Option ℕ)). IsModuleOf (HasModule ms) (HasScope ms (stems_of plan)) (string_bytes plan.names.start) g.file ts basis (string_bytes m.text)) named made in

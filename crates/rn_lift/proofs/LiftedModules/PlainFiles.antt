@@ -6,11 +6,11 @@ use Rattle.std.proofs.lemmas.Option.{slice_get_within, get_or_from_slice_get}
 use Rattle.std.proofs.lemmas.List.{take_all}
 use Rattle.std.proofs.lemmas.List.Elements.{All-weaker, All-from_recursion, All-get_or, All-head}
 use Rattle.rn_outline.specs.Links.{targets_of}
-use Rattle.rn_outline.specs.declared.file_parts.Part.{Part}
-use Rattle.rn_outline.specs.declared.file_parts.PartKind.{PartKind}
-use Rattle.rn_outline.specs.declared.file_parts.PartKind.TheVariants.{Define, Start, Reference, Parent, External, Include, Grammar}
+use Rattle.rn_outline.specs.declared.file_parts.FilePart.{FilePart}
+use Rattle.rn_outline.specs.declared.file_parts.FilePartKind.{FilePartKind}
+use Rattle.rn_outline.specs.declared.file_parts.FilePartKind.TheVariants.{Define, Start, Reference, Parent, External, Include, Grammar}
 use Rattle.rn_scopes.specs.declared.lift_fault.LiftFault.{LiftFault}
-use Rattle.rn_scopes.specs.declared.given.Lifting.{Lifting}
+use Rattle.rn_scopes.specs.declared.input_files.Lifting.{Lifting}
 use Rattle.rn_lift.specs.Edits.{edited_bytes}
 use Rattle.rn_lift.specs.LiftedModules.{AreMadeOfFiles, HasModule, HasScope, IsKept, IsKeptKind, IsMadeOfFile, IsModuleOf, IsPlain, KeepsText}
 use Rattle.rn_lift.specs.StandIns.{IsEdit, Modules, Scopes, StandsForKind}
@@ -20,7 +20,7 @@ use Rattle.rn_lift.specs.declared.lifted.Lifted.{Lifted}
 use Rattle.rn_lift.specs.declared.lifted.LiftedModule.{LiftedModule}
 
 -- nothing stands for what is kept in the scope of the roots
-no_text : (m : Modules) (s : Scopes) (start : List ℕ) (b : Basis) (named : Option ℕ) (kind : PartKind) (text : List ℕ) → b.scope ≡ 0 → IsKeptKind kind → StandsForKind m s start b named kind text → ⊥
+no_text : (m : Modules) (s : Scopes) (start : List ℕ) (b : Basis) (named : Option ℕ) (kind : FilePartKind) (text : List ℕ) → b.scope ≡ 0 → IsKeptKind kind → StandsForKind m s start b named kind text → ⊥
 no_text m s start b named (Include l a i) text z k h = k
 no_text m s start b named (External l a i) text z k h = k
 no_text m s start b named (Grammar number i) text z k h = k
@@ -30,7 +30,7 @@ no_text m s start b named (Start w i j o l) text z k (inr h) = omega (arith, k, 
 no_text m s start b named (Define w i j o l) text z k h = h z
 no_text m s start b named (Reference i) text z k h = h z
 
-no_edit : (m : Modules) (s : Scopes) (start : List ℕ) (b : Basis) (parts : List Part) (named : List (Option ℕ)) (e : Edit) → b.scope ≡ 0 → All IsKept parts → IsEdit m s start b parts named e → ⊥
+no_edit : (m : Modules) (s : Scopes) (start : List ℕ) (b : Basis) (parts : List FilePart) (named : List (Option ℕ)) (e : Edit) → b.scope ≡ 0 → All IsKept parts → IsEdit m s start b parts named e → ⊥
 no_edit m s start b parts named e z kept h =
     let k : IsKept h.part = subst IsKept (get_or_from_slice_get parts e.part h.part h.part h.is_part) (All-get_or IsKept parts e.part h.part (slice_get_within parts e.part h.part h.is_part) kept) in
     no_text m s start b (unwrap_or (slice_get named e.part) None) h.part.kind (string_bytes e.text) z k.1 (h.stands k.0)
@@ -39,7 +39,7 @@ no_edits : (es : List Edit) → All (λ e. ⊥) es → es ≡ []
 no_edits [] h = refl
 no_edits (e ∷ es) h = absurd (All-head (λ e. ⊥) e es h)
 
-no_excepts : (parts : List Part) → AllByRecursion IsKept parts → list_any (λ p. p.in_except) parts ≡ false
+no_excepts : (parts : List FilePart) → AllByRecursion IsKept parts → list_any (λ p. p.in_except) parts ≡ false
 no_excepts [] h = refl
 no_excepts (p ∷ ps) h = rw (h.0.0) (no_excepts ps h.1)
 

@@ -2,14 +2,14 @@
 use Rattle.std.specs.Prelude.{◌≡◌, ◌≢◌, ℕ, ◌⊎◌, List, All, Contains, map, Option, Some, slice_get, string_bytes}
 use Rattle.rn_scopes.specs.UnitFiles.{target_of}
 use Rattle.rn_scopes.specs.ScopeEntries.{entry_of}
-use Rattle.rn_scopes.specs.declared.given.Given.{Given}
+use Rattle.rn_scopes.specs.declared.input_files.InputFile.{InputFile}
 use Rattle.rn_scopes.specs.declared.scopes.PlacedUnit.{PlacedUnit}
 use Rattle.rn_scopes.specs.declared.scopes.Plan.{Plan}
 use Rattle.rn_scopes.specs.declared.scopes.Scope.{Scope}
 use Rattle.rn_scopes.specs.declared.units.Unit.{Unit}
 use Rattle.rn_scopes.specs.declared.units.Units.{Units}
-use Rattle.rn_outline.specs.declared.file_parts.Part.{Part}
-use Rattle.rn_outline.specs.declared.file_parts.PartKind.{PartKind}
+use Rattle.rn_outline.specs.declared.file_parts.FilePart.{FilePart}
+use Rattle.rn_outline.specs.declared.file_parts.FilePartKind.{FilePartKind}
 use Rattle.rn_lift.specs.LiftedModules.{BringsIn, IsModuleOf}
 use Rattle.rn_lift.specs.StandIns.{IsEdit, Stays, StandsFor, StandsForKind}
 use Rattle.rn_lift.specs.declared.edits.Edit.{Edit}
@@ -59,10 +59,10 @@ pub record IsScopeOf (v : PlaceView) (named : Option ℕ) (grammar : ℕ) (scope
   pub is_place : IsPlaceOf v number named grammar place
 
 -- what may stand in the place of a part of this number in a module that is planned
-abbrev pub StandsForKindAt : PlaceView → ℕ → PartKind → List ℕ → Type 0
+abbrev pub StandsForKindAt : PlaceView → ℕ → FilePartKind → List ℕ → Type 0
 StandsForKindAt v number kind text = StandsForKind (IsPlanned v.units.now v.plan.now) (IsPlannedScope v.plan.now) (string_bytes v.plan.now.names.start) v.basis (target_of v.given.now number) kind text
 
-abbrev pub StandsForAt : PlaceView → ℕ → Part → List ℕ → Type 0
+abbrev pub StandsForAt : PlaceView → ℕ → FilePart → List ℕ → Type 0
 StandsForAt v number p text = StandsFor (IsPlanned v.units.now v.plan.now) (IsPlannedScope v.plan.now) (string_bytes v.plan.now.names.start) v.basis (target_of v.given.now number) p text
 
 -- what is put in the place of a part of a module that is planned
@@ -71,11 +71,11 @@ IsEditOf v e = IsEdit (IsPlanned v.units.now v.plan.now) (IsPlannedScope v.plan.
 
 -- nothing stands for the part of this number, if it is of the grammar
 abbrev pub StaysAt : PlaceView → ℕ → Type 0
-StaysAt v n = (p : Part) → slice_get v.given.now.file.outline.now.parts.items n ≡ Some p → p.grammar ≡ v.basis.grammar → Stays v.basis.scope p
+StaysAt v n = (p : FilePart) → slice_get v.given.now.file.outline.now.parts.items n ≡ Some p → p.grammar ≡ v.basis.grammar → Stays v.basis.scope p
 
 -- the part of this number stays, or an edit is for it
 abbrev pub IsCovered : PlaceView → List Edit → ℕ → Type 0
-IsCovered v es n = (p : Part) → slice_get v.given.now.file.outline.now.parts.items n ≡ Some p → p.grammar ≡ v.basis.grammar → Stays v.basis.scope p ⊎ Contains (map (λ e. e.part) es) n
+IsCovered v es n = (p : FilePart) → slice_get v.given.now.file.outline.now.parts.items n ≡ Some p → p.grammar ≡ v.basis.grammar → Stays v.basis.scope p ⊎ Contains (map (λ e. e.part) es) n
 
 -- what is put in the place of the part of this number is added, if something is
 pub record AddsEdit (v : PlaceView) (number : ℕ) (old new : List Edit) : Type 0 where
@@ -88,7 +88,7 @@ abbrev pub IsModuleAt : PlaceView → List ℕ → Type 0
 IsModuleAt v text = IsModuleOf (IsPlanned v.units.now v.plan.now) (IsPlannedScope v.plan.now) (string_bytes v.plan.now.names.start) v.given.now.file v.given.now.targets.items v.basis text
 
 -- a place, with its unit and its file
-pub record IsPlaceWithFile (units : Units) (plan : Plan) (number : ℕ) (place : PlacedUnit) (unit : Unit) (given : Given) : Type 0 where
+pub record IsPlaceWithFile (units : Units) (plan : Plan) (number : ℕ) (place : PlacedUnit) (unit : Unit) (given : InputFile) : Type 0 where
   pub is_place : slice_get plan.places.items number ≡ Some place
   pub is_unit : slice_get units.units.items place.unit ≡ Some unit
   pub is_given : slice_get units.files.items unit.file ≡ Some given
@@ -97,7 +97,7 @@ pub record IsPlaceWithFile (units : Units) (plan : Plan) (number : ℕ) (place :
 pub record IsModuleOfPlace (units : Units) (plan : Plan) (number : ℕ) (m : LiftedModule) : Type 0 where
   pub place : PlacedUnit
   pub unit : Unit
-  pub given : Given
+  pub given : InputFile
   pub is_place_with_file : IsPlaceWithFile units plan number place unit given
   pub is_name : string_bytes m.name ≡ string_bytes place.module
   pub is_basis : m.basis ≡ Some (basis_of unit place)

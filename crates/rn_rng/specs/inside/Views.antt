@@ -17,7 +17,7 @@ use Rattle.rn_rng.specs.declared.tag.Tag.{Tag}
 use Rattle.rn_rng.specs.declared.namespaces.Namespaces.{Namespaces}
 use Rattle.rn_rng.specs.declared.namespaces.UriSource.{UriSource}
 use Rattle.rn_rng.specs.declared.namespaces.UriSource.TheVariants as u
-use Rattle.rn_rng.specs.declared.place.Place.{Place}
+use Rattle.rn_rng.specs.declared.element_context.ElementContext.{ElementContext}
 use Rattle.rn_rng.specs.Layout.{Holder, in_element, in_attribute, items_text}
 use Rattle.rn_rng.specs.Translation.{attribute, class_xml, one_item, operator_local, pattern_xml, unwrapped}
 
@@ -55,18 +55,18 @@ abbrev pub placed : Option Operator → Item → Items
 placed None i = one_item i
 placed (Some op) i = unwrapped (operator_local op) i
 
--- what is written of a name class at a place, whose names without prefix are in the namespace `own`
-abbrev pub class_at : Namespaces → Place → (own : UriSource) → NameClass → Text
+-- what is written of a name class in a context, whose names without prefix are in the namespace `own`
+abbrev pub class_at : Namespaces → ElementContext → (own : UriSource) → NameClass → Text
 class_at n at own c = items_text at.level (placed at.wrapper (class_xml (given n) (uri_of n at.namespace) (uri_of n own) c))
 
--- what is written of name classes at the same place
-abbrev pub classes_at : Namespaces → Place → (own : UriSource) → List Nc → Text
+-- what is written of name classes in the same context
+abbrev pub classes_at : Namespaces → ElementContext → (own : UriSource) → List Nc → Text
 classes_at n at own cs = flat_map (λ (c : Nc). class_at n at own (class_view c)) cs
 
--- what is written of a pattern at a place
-abbrev pub pattern_at : Namespaces → Place → Pattern → Text
+-- what is written of a pattern in a context
+abbrev pub pattern_at : Namespaces → ElementContext → Pattern → Text
 pattern_at n at p = items_text at.level (placed at.wrapper (pattern_xml (given n) (uri_of n at.namespace) (uri_of n at.library) p))
 
--- what is written of patterns at the same place
-abbrev pub patterns_at : Namespaces → Place → List Pat → Text
+-- what is written of patterns in the same context
+abbrev pub patterns_at : Namespaces → ElementContext → List Pat → Text
 patterns_at n at ps = flat_map (λ (p : Pat). pattern_at n at (pattern_view p)) ps

@@ -11,10 +11,10 @@ use Rattle.rn_rng.proofs.data_xml.write_value.Goals as goal
 pub returns : goal.returns
 returns c =
     let N = c.args.namespaces.now in
-    let n = c.args.place.level in
+    let n = c.args.context.level in
     let v = c.args.value.now in
     let l = c.value_tag-tag.ensures.element in
     let a = c.value_tag-tag.ensures.attributes in
     let s = c.as_str.ensures.value in
-    writes_line n (codes "value") (value_attributes (given N) (uri_of N c.args.place.library) (type_view v.datatype)) (cow_str_bytes v.text) refl
+    writes_line n (codes "value") (value_attributes (given N) (uri_of N c.args.context.library) (type_view v.datatype)) (cow_str_bytes v.text) refl
     (writes_as (λ i. tag_front n (l i) (a i) ++ (codes ">" ++ (escaped in_element (s i) ++ end_tag (l i)))) c.line.ensures)

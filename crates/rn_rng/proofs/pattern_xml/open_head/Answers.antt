@@ -2,7 +2,7 @@ use Rattle.std.proofs.Common.{◌++◌, [], sym, ap, ◌∙◌, subst, append_as
 use Rattle.std.specs.Prelude.{codes}
 use Rattle.rn_syntax.specs.Tree.{NameClass}
 use Rattle.rn_syntax.specs.View.{class_view}
-use Rattle.rn_rng.specs.declared.place.Place.{Place}
+use Rattle.rn_rng.specs.declared.element_context.ElementContext.{ElementContext}
 use Rattle.rn_rng.specs.Layout.{deeper, items_text, tag_front}
 use Rattle.rn_rng.specs.Translation.{class_attributes, class_inside, class_items, class_xml, name_attributes, ns_inside, one_item}
 use Rattle.rn_rng.specs.inside.Views.{class_at, given, uri_of}
@@ -14,7 +14,7 @@ use Rattle.rn_rng.proofs.pattern_xml.open_head.Goals as goal
 pub returns-in-Some-clause-written : goal.returns-in-Some-clause-written
 returns-in-Some-clause-written c =
     let N = c.args.namespaces.now in
-    let P = c.args.place in
+    let P = c.args.context in
     let T = uri_of N c.args.taken in
     let O = uri_of N c.args.own in
     let is = c.in-Some.ensures in
@@ -25,23 +25,23 @@ returns-in-Some-clause-written c =
 pub returns-in-Some-clause-namespace : goal.returns-in-Some-clause-namespace
 returns-in-Some-clause-namespace c =
     let N = c.args.namespaces.now in
-    let P = c.args.place in
+    let P = c.args.context in
     let T = uri_of N c.args.taken in
     let O = uri_of N c.args.own in
     let ns = uri_of N P.namespace in
     let is = c.in-Some.ensures in
-    ap (λ (x : Place). uri_of N x.namespace) c.under.ensures ∙ c.namespace_inside-namespace.ensures ∙ ap (ns_inside ns T) is.2 ∙ sym (ap (class_inside (given N) ns T O) is.1)
+    ap (λ (x : ElementContext). uri_of N x.namespace) c.under.ensures ∙ c.namespace_inside-namespace.ensures ∙ ap (ns_inside ns T) is.2 ∙ sym (ap (class_inside (given N) ns T O) is.1)
 
 pub returns-in-None-clause-written : goal.returns-in-None-clause-written
 returns-in-None-clause-written c =
     let N = c.args.namespaces.now in
-    let P = c.args.place in
+    let P = c.args.context in
     let T = uri_of N c.args.taken in
     let O = uri_of N c.args.own in
     let ns = uri_of N P.namespace in
     let k = class_view c.args.class.now in
     let f = c.in-None.ensures in
-    let class = subst (λ (x : Place). Writes (class_at N x c.args.own k) c.open_bare.new.self c.write_class.new.writer) c.inside-in-None.ensures c.write_class.ensures in
+    let class = subst (λ (x : ElementContext). Writes (class_at N x c.args.own k) c.open_bare.new.self c.write_class.new.writer) c.inside-in-None.ensures c.write_class.ensures in
     let x = items_text (deeper P.level) (one_item (class_xml (given N) ns O k)) in
     let e = c.args.element.now in
     let a = sym (no_name_attributes (given N) T O k f) in
@@ -52,6 +52,6 @@ returns-in-None-clause-written c =
 pub returns-in-None-clause-namespace : goal.returns-in-None-clause-namespace
 returns-in-None-clause-namespace c =
     let N = c.args.namespaces.now in
-    let P = c.args.place in
+    let P = c.args.context in
     let ns = uri_of N P.namespace in
-    ap (λ (x : Place). uri_of N x.namespace) c.inside-in-None-2.ensures ∙ sym (no_name_inside (given N) ns (uri_of N c.args.taken) (uri_of N c.args.own) (class_view c.args.class.now) c.in-None.ensures)
+    ap (λ (x : ElementContext). uri_of N x.namespace) c.inside-in-None-2.ensures ∙ sym (no_name_inside (given N) ns (uri_of N c.args.taken) (uri_of N c.args.own) (class_view c.args.class.now) c.in-None.ensures)

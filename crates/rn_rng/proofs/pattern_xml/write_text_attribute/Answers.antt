@@ -3,7 +3,7 @@ use Rattle.std.specs.Prelude.{codes}
 use Rattle.rn_syntax.specs.Tree.{NameClass}
 use Rattle.rn_syntax.specs.View.{class_view}
 use Rattle.rn_rng.specs.declared.namespaces.UriSource.TheVariants.{Empty as UriEmpty}
-use Rattle.rn_rng.specs.declared.place.Place.{Place}
+use Rattle.rn_rng.specs.declared.element_context.ElementContext.{ElementContext}
 use Rattle.rn_rng.specs.Layout.{item_text, tag_front}
 use Rattle.rn_rng.specs.Translation.{class_attributes, class_items, class_xml, element, name_attributes, name_local, name_uri, one_item}
 use Rattle.rn_rng.specs.inside.Views.{class_at, given, uri_of}
@@ -15,7 +15,7 @@ use Rattle.rn_rng.proofs.pattern_xml.write_text_attribute.Goals as goal
 pub returns-in-Some : goal.returns-in-Some
 returns-in-Some c =
     let N = c.args.namespaces.now in
-    let P = c.args.place in
+    let P = c.args.context in
     let is = c.in-Some.ensures in
     let attributes = c.named_tag.ensures.attributes ∙ (λ i. name_attributes [] (is.2 i) (is.3 i)) in
     let line = writes_as (λ i. tag_front P.level (c.named_tag.ensures.element i) (attributes i) ++ codes "/>\n") c.empty.ensures in
@@ -26,11 +26,11 @@ returns-in-Some c =
 pub returns-in-None : goal.returns-in-None
 returns-in-None c =
     let N = c.args.namespaces.now in
-    let P = c.args.place in
+    let P = c.args.context in
     let ns = uri_of N P.namespace in
     let k = class_view c.args.class.now in
     let f = c.in-None.ensures in
-    let class = subst (λ (x : Place). Writes (class_at N x UriEmpty k) c.open_bare.new.self c.write_class.new.writer) c.inside.ensures c.write_class.ensures in
+    let class = subst (λ (x : ElementContext). Writes (class_at N x UriEmpty k) c.open_bare.new.self c.write_class.new.writer) c.inside.ensures c.write_class.ensures in
     let a = sym (no_name_attributes (given N) [] [] k f) in
     let b = sym (no_name_items (given N) ns [] k f) in
     writes_as (λ i. item_text P.level (element (codes "attribute") (a i) (b i)))

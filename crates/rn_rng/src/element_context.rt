@@ -1,4 +1,4 @@
-// Where an element is: how deep, and what it inherits there (RELAX NG 2001, 4.3, 4.9 and 4.12).
+// What an element is in: how many elements, and what it inherits there (RELAX NG 2001, 4.3, 4.9 and 4.12).
 ghost use Rattle.std.specs.Prelude.{◌≡◌, ◌≢◌, false, Some, None, IsTrue};
 ghost use Rattle.rn_rng.specs.Layout as layout;
 ghost use Rattle.rn_rng.specs.declared.namespaces.UriSource.TheVariants.{Empty, Xsd};
@@ -7,9 +7,9 @@ use crate::lines::deeper;
 use crate::namespaces::UriSource;
 use rn_syntax::Operator;
 
-/// Where an element is.
+/// What an element is in.
 #[derive(Clone, Copy)]
-pub(crate) struct Place {
+pub(crate) struct ElementContext {
     /// How many elements are open, as [`deeper`] counts them.
     pub level: usize,
     /// The connector in which the children of the element around are already.
@@ -20,13 +20,13 @@ pub(crate) struct Place {
     pub library: UriSource,
 }
 
-impl Place {
-    /// A place of this level in the root.
-    pub fn at(level: usize) -> Place
+impl ElementContext {
+    /// The context in the root, at this level.
+    pub fn at(level: usize) -> ElementContext
         ensures { result ≡ record
             { level = level; wrapper = None; namespace = Empty; library = Xsd } }
     {
-        Place {
+        ElementContext {
             level,
             wrapper: None,
             namespace: UriSource::Empty,
@@ -45,11 +45,11 @@ impl Place {
         }
     }
 
-    /// The place in an element that gives nothing.
-    pub fn inside(self) -> Place
+    /// The context in an element that gives nothing.
+    pub fn inside(self) -> ElementContext
         ensures { result ≡ record self { level = layout.deeper self.level; wrapper = None } }
     {
-        Place {
+        ElementContext {
             level: deeper(self.level),
             wrapper: None,
             namespace: self.namespace,
@@ -57,11 +57,11 @@ impl Place {
         }
     }
 
-    /// The same place, where children are in this connector already.
-    pub fn wrapped(self, wrapper: Operator) -> Place
+    /// The same context, where children are in this connector already.
+    pub fn wrapped(self, wrapper: Operator) -> ElementContext
         ensures { result ≡ record self { wrapper = Some wrapper } }
     {
-        Place {
+        ElementContext {
             level: self.level,
             wrapper: Some(wrapper),
             namespace: self.namespace,
@@ -69,11 +69,11 @@ impl Place {
         }
     }
 
-    /// The same place, where children are in no connector.
-    pub fn alone(self) -> Place
+    /// The same context, where children are in no connector.
+    pub fn alone(self) -> ElementContext
         ensures { result ≡ record self { wrapper = None } }
     {
-        Place {
+        ElementContext {
             level: self.level,
             wrapper: None,
             namespace: self.namespace,
@@ -81,11 +81,11 @@ impl Place {
         }
     }
 
-    /// The same place under another `ns`.
-    pub fn under(self, namespace: UriSource) -> Place
+    /// The same context under another `ns`.
+    pub fn under(self, namespace: UriSource) -> ElementContext
         ensures { result ≡ record self { namespace = namespace } }
     {
-        Place {
+        ElementContext {
             level: self.level,
             wrapper: self.wrapper,
             namespace,
@@ -93,11 +93,11 @@ impl Place {
         }
     }
 
-    /// The same place under another `datatypeLibrary`.
-    pub fn with_library(self, library: UriSource) -> Place
+    /// The same context under another `datatypeLibrary`.
+    pub fn with_library(self, library: UriSource) -> ElementContext
         ensures { result ≡ record self { library = library } }
     {
-        Place {
+        ElementContext {
             level: self.level,
             wrapper: self.wrapper,
             namespace: self.namespace,

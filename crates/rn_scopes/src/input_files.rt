@@ -4,7 +4,7 @@ ghost use Rattle.rn_outline.specs.Links.{behind_first, first_of, targets_of};
 ghost use Rattle.rn_scopes.specs.UnitFiles.{HasTargets, target_of};
 
 use crate::outline_bindings::OutlineBindings;
-use rn_outline::{Outline, Part, is_link};
+use rn_outline::{FilePart, Outline, is_link};
 use std::alloc::{AllocError, Global};
 
 /// A file that is to be lifted.
@@ -23,7 +23,7 @@ pub struct Lifting<'a> {
 
 /// A file, with what its declarations bind and the index of its first unit.
 #[derive(Drop)]
-pub struct Given<'a> {
+pub struct InputFile<'a> {
     /// The file, as it was given.
     pub file: Lifting<'a>,
     /// For each part of the outline, the index of the file that it names, if it names one.
@@ -32,14 +32,14 @@ pub struct Given<'a> {
     pub(crate) first: usize,
 }
 
-impl<'a> Given<'a> {
+impl<'a> InputFile<'a> {
     /// A file, and the index of its first unit.
     pub(crate) fn of(alloc: Global, file: Lifting<'a>, first: usize) -> Result<Self, AllocError>
         ensures file { IfOk result (λ g. g.file ≡ file.entry) }
         ensures targets { IfOk result HasTargets }
     {
         let outline = file.outline;
-        Ok(Given {
+        Ok(InputFile {
             file,
             targets: targets_of(alloc, outline.parts.as_slice(), file.targets)?,
             bindings: OutlineBindings::of(alloc, file.text, outline)?,
@@ -58,7 +58,7 @@ impl<'a> Given<'a> {
     }
 
     /// The part of this index in the outline, if there is one.
-    pub fn part(&self, number: usize) -> Option<&'a Part> {
+    pub fn part(&self, number: usize) -> Option<&'a FilePart> {
         let outline = self.file.outline;
         outline.parts.get(number)
     }
@@ -72,7 +72,7 @@ impl<'a> Given<'a> {
 /// The file of each part, by its index: parts that name a file take the given ones in turn, others have none.
 fn targets_of(
     alloc: Global,
-    parts: &[Part],
+    parts: &[FilePart],
     targets: &[usize],
 ) -> Result<Vec<Option<usize>>, AllocError>
     ensures { IfOk result (λ v. v.items ≡ targets_of parts.now targets.now) }

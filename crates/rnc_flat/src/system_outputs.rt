@@ -13,12 +13,12 @@ const PERMISSIONS: u32 = 0o777;
 
 /// The files of the system, as they are written.
 #[derive(Drop)]
-pub struct Written<'a> {
+pub struct SystemOutputs<'a> {
     /// What asks the system.
     pub rt: &'a HostRuntime,
 }
 
-impl Outputs for Written<'_> {
+impl Outputs for SystemOutputs<'_> {
     fn replace(&mut self, path: &str, bytes: &[u8]) -> Result<(), WriteFault> {
         write_whole(self.rt, path, bytes).map_err(|error| fault_of(&error))
     }
