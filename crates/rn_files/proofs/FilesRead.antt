@@ -8,12 +8,12 @@ use Rattle.std.proofs.lemmas.List.{take_all}
 use Rattle.std.proofs.lemmas.List.Elements.{All-weaker}
 use Rattle.rn_files.specs.Maps.{Groups, IsFoundFolder}
 use Rattle.rn_files.specs.ReadableFiles.{Gives, IsFrontOfRead, IsKept, IsReadAt, IsReadFor, IsReadSource, IsReadWithin, IsTextRead, Leads, LiesInMap, MayBeRead, Reads, lies_in}
-use Rattle.rn_files.specs.inside.Following.{IsFollowed, IsFront, IsRootOf}
+use Rattle.rn_files.specs.inside.Following.{IsDecodedIn, IsFollowed, IsFront, IsKeptIn, IsRootOf}
 use Rattle.rn_files.specs.declared.root_folder.RootFolder.{RootFolder}
 use Rattle.rn_files.specs.declared.sources.Asked.{Asked}
 use Rattle.rn_files.specs.declared.sources.SourceFile.{SourceFile}
 use Rattle.rn_files.specs.declared.sources.XmlSource.{XmlSource}
-use Rattle.rn_xml.specs.Encodings.{may_be_xml}
+use Rattle.rn_xml.specs.Encodings.{may_be_xml, IsDecoded}
 use Rattle.rn_files.specs.declared.walk.Followed.{Followed}
 
 none_matched : {A : Type 0} (o : Option A) (P Q : Type 0) → is_some o ≡ false → P → MatchOption o P (λ x. Q)
@@ -28,13 +28,17 @@ weaker_matched : {A : Type 0} (o : Option A) (P Q P' Q' : Type 0) → (P → P')
 weaker_matched None P Q P' Q' f g h = f h
 weaker_matched (Some x) P Q P' Q' f g h = g h
 
+always : {A : Type 0} (o : Option A) (P : Type 0) → P → OnSome o P
+always None P p = tt
+always (Some x) P p = p
+
 all_is_front : (reads : Reads) (uri path text : List ℕ) → reads uri path text → IsFrontOfRead reads text
 all_is_front reads uri path text h = inr (uri, path, text, length text, h, sym (take_all (length text) text (omega arith)))
 
 -- the text that was read is kept
 text_kept : (reads : Reads) (uri path text : List ℕ) (w : Option XmlSource) → IsTextRead reads uri path text w → IsKept reads text w
 text_kept reads uri path text None h = all_is_front reads uri path text h
-text_kept reads uri path text (Some w) (bytes, h, xml) = (uri, path, bytes, h, xml)
+text_kept reads uri path text (Some w) (bytes, h, xml, is) = (uri, path, bytes, h, xml, always w.origins (IsDecoded bytes (string_bytes w.text)) is)
 
 front_weaker : (reads others : Reads) → ((u p b : List ℕ) → reads u p b → others u p b) → (text : List ℕ) → IsFrontOfRead reads text → IsFrontOfRead others text
 front_weaker reads others weaker text (inl none) = inl none
@@ -42,24 +46,24 @@ front_weaker reads others weaker text (inr (uri, path, bytes, n, read, cut)) = i
 
 kept_weaker : (reads others : Reads) → ((u p b : List ℕ) → reads u p b → others u p b) → (text : List ℕ) (w : Option XmlSource) → IsKept reads text w → IsKept others text w
 kept_weaker reads others weaker text None h = front_weaker reads others weaker text h
-kept_weaker reads others weaker text (Some w) (uri, path, bytes, read, xml) = (uri, path, bytes, weaker uri path bytes read, xml)
+kept_weaker reads others weaker text (Some w) (uri, path, bytes, read, xml, is) = (uri, path, bytes, weaker uri path bytes read, xml, is)
 
 text_weaker : (reads others : Reads) → ((u p b : List ℕ) → reads u p b → others u p b) → (uri path text : List ℕ) (w : Option XmlSource)
     → IsTextRead reads uri path text w → IsTextRead others uri path text w
 text_weaker reads others weaker uri path text None h = weaker uri path text h
-text_weaker reads others weaker uri path text (Some w) (bytes, h, xml) = (bytes, weaker uri path bytes h, xml)
+text_weaker reads others weaker uri path text (Some w) (bytes, h, xml, is) = (bytes, weaker uri path bytes h, xml, is)
 
 -- the text of a file without fault
 pub text_read : (reads : Reads) (uri path bytes text : List ℕ) (w : Option XmlSource) → reads uri path bytes → IfNone w (text ≡ bytes)
-    → OnSome w (may_be_xml bytes ≡ true) → IsTextRead reads uri path text w
-text_read reads uri path bytes text None read same xml = let P : List ℕ → Type 0 = λ t. reads uri path t in subst P (sym same) read
-text_read reads uri path bytes text (Some w) read same xml = (bytes, read, xml)
+    → OnSome w (may_be_xml bytes ≡ true) → IsDecodedIn bytes w → IsTextRead reads uri path text w
+text_read reads uri path bytes text None read same xml is = let P : List ℕ → Type 0 = λ t. reads uri path t in subst P (sym same) read
+text_read reads uri path bytes text (Some w) read same xml is = (bytes, read, xml, is)
 
 -- what is kept of a file at fault
 kept_front : (reads : Reads) (uri path bytes text : List ℕ) (w : Option XmlSource) → reads uri path bytes → IfNone w (IsFront bytes text)
-    → OnSome w (may_be_xml bytes ≡ true) → IsKept reads text w
-kept_front reads uri path bytes text None read (n, cut) xml = inr (uri, path, bytes, n, read, cut)
-kept_front reads uri path bytes text (Some w) read front xml = (uri, path, bytes, read, xml)
+    → OnSome w (may_be_xml bytes ≡ true) → IsKeptIn bytes w → IsKept reads text w
+kept_front reads uri path bytes text None read (n, cut) xml is = inr (uri, path, bytes, n, read, cut)
+kept_front reads uri path bytes text (Some w) read front xml is = (uri, path, bytes, read, xml, is)
 
 -- a file at fault
 pub faulty_followed : (reads : Reads) (f : Followed) → is_some f.outline ≡ false → IsKept reads (string_bytes f.text) f.written → IsFollowed reads f
@@ -76,11 +80,11 @@ unread_followed reads f none empty unwritten = faulty_followed reads f none (not
 
 -- a file at fault, of which a front is kept
 pub front_followed : (reads : Reads) (f : Followed) (uri path bytes text : List ℕ) (w : Option XmlSource) → is_some f.outline ≡ false → string_bytes f.text ≡ text
-    → f.written ≡ w → IfNone w (IsFront bytes text) → OnSome w (may_be_xml bytes ≡ true) → reads uri path bytes → IsFollowed reads f
-front_followed reads f uri path bytes text w none same written front xml read =
+    → f.written ≡ w → IfNone w (IsFront bytes text) → OnSome w (may_be_xml bytes ≡ true) → IsKeptIn bytes w → reads uri path bytes → IsFollowed reads f
+front_followed reads f uri path bytes text w none same written front xml is read =
     let P : List ℕ → Type 0 = λ t. IsKept reads t f.written in
     let Q : Option XmlSource → Type 0 = λ v. IsKept reads text v in
-    faulty_followed reads f none (subst P (sym same) (subst Q (sym written) (kept_front reads uri path bytes text w read front xml)))
+    faulty_followed reads f none (subst P (sym same) (subst Q (sym written) (kept_front reads uri path bytes text w read front xml is)))
 
 -- what is kept of each file
 pub followed_kept : (reads : Reads) (f : Followed) → IsFollowed reads f → IsKept reads (string_bytes f.text) f.written

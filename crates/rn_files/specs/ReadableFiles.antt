@@ -1,6 +1,6 @@
 -- Which files may be read where a root folder is given: those in that folder, those that a map finds in its own folder, and standard
 -- input. Where a file lies says its real path, and that is the one of what was opened, whatever lies at its path before and after.
-use Rattle.std.specs.Prelude.{◌≡◌, ◌⊎◌, ℕ, Bool, true, List, [], ◌++◌, nat_eq, codes, is_some, take, All, Option, Some, None, string_bytes, ⊤, if◌then◌else◌}
+use Rattle.std.specs.Prelude.{◌≡◌, ◌⊎◌, ℕ, Bool, true, List, [], ◌++◌, nat_eq, codes, is_some, take, All, Option, Some, None, OnSome, string_bytes, ⊤, if◌then◌else◌}
 use Rattle.std.specs.List.{ends_with}
 use Rattle.std.specs.Option.{option_copied}
 use Rattle.rn_files.specs.Maps.{Groups, IsFoundFolder, behind_prefix}
@@ -9,7 +9,7 @@ use Rattle.rn_files.specs.declared.source_reading.ReadingFault.TheVariants.{Faul
 use Rattle.rn_files.specs.declared.sources.Asked.{Asked}
 use Rattle.rn_files.specs.declared.sources.SourceFile.{SourceFile}
 use Rattle.rn_files.specs.declared.sources.XmlSource.{XmlSource}
-use Rattle.rn_xml.specs.Encodings.{may_be_xml}
+use Rattle.rn_xml.specs.Encodings.{may_be_xml, IsDecoded}
 
 -- where the words of the command and the folders of maps lead: from a path to a real path
 abbrev pub Leads : Type 1
@@ -59,10 +59,11 @@ IsReadWithin leads gives (Some named) maps uri path bytes =
 abbrev pub IsReadFor : Leads → Gives → Asked → Reads
 IsReadFor leads gives asked = IsReadWithin leads gives (option_copied asked.root) asked.maps.now
 
--- what was read for a URI at a path has this text: its bytes; of a file in the XML syntax, what is made of bytes that begin so
+-- what was read for a URI at a path has this text: its bytes. Of a file in the XML syntax it is made of bytes that begin so, and what is
+-- written is the text that they are in the encoding that they declare
 abbrev pub IsTextRead : Reads → (uri path text : List ℕ) → Option XmlSource → Type 0
 IsTextRead reads uri path text None = reads uri path text
-IsTextRead reads uri path text (Some w) = (bytes : List ℕ) × reads uri path bytes × (may_be_xml bytes ≡ true)
+IsTextRead reads uri path text (Some w) = (bytes : List ℕ) × reads uri path bytes × (may_be_xml bytes ≡ true) × IsDecoded bytes (string_bytes w.text)
 
 -- the text of a source is what was read at its path
 abbrev pub IsReadSource : Reads → SourceFile → Type 0
@@ -72,10 +73,11 @@ IsReadSource reads f = IsTextRead reads (string_bytes f.uri) (string_bytes f.pat
 abbrev pub IsFrontOfRead : Reads → List ℕ → Type 0
 IsFrontOfRead reads text = (text ≡ []) ⊎ ((uri path bytes : List ℕ) × (n : ℕ) × reads uri path bytes × (text ≡ take n bytes))
 
--- what is kept of a file: such a text; of a file in the XML syntax, what is made of bytes that were read
+-- what is kept of a file: such a text. Of a file in the XML syntax it is made of bytes that were read, and what is written is the text
+-- that they are, if something could be made of it
 abbrev pub IsKept : Reads → List ℕ → Option XmlSource → Type 0
 IsKept reads text None = IsFrontOfRead reads text
-IsKept reads text (Some w) = (uri path bytes : List ℕ) × reads uri path bytes × (may_be_xml bytes ≡ true)
+IsKept reads text (Some w) = (uri path bytes : List ℕ) × reads uri path bytes × (may_be_xml bytes ≡ true) × OnSome w.origins (IsDecoded bytes (string_bytes w.text))
 
 -- what is kept of files that are refused is such texts
 abbrev pub KeepsWhatIsRead : Reads → ReadingFault → Type 0

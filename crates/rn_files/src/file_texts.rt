@@ -1,8 +1,8 @@
 // The text of a file, and what it is made of.
-ghost use Rattle.std.specs.Prelude.{◌≡◌, true, IfNone, IfOk, IsErr, IsNone, IsSome, OnOk, OnSome, if◌then◌else◌, string_bytes};
+ghost use Rattle.std.specs.Prelude.{◌≡◌, true, IfNone, IfOk, IfSome, IsErr, IsNone, IsSome, OnOk, OnSome, if◌then◌else◌, string_bytes};
 ghost use Rattle.rn_xml.specs.Encodings.{may_be_xml};
 ghost use Rattle.rn_files.specs.inside.Encodings.{begins_utf16};
-ghost use Rattle.rn_files.specs.inside.Following.{IsFront};
+ghost use Rattle.rn_files.specs.inside.Following.{IsDecodedIn, IsFront, IsKeptIn};
 
 use crate::source_faults::SourceFaultKind;
 use crate::sources::XmlSource;
@@ -81,6 +81,8 @@ pub fn text_of(alloc: Global, bytes: &[u8]) -> Result<FileText, AllocError>
     ensures front { IfOk result (λ read. IfNone read.written
         (IsFront bytes.now (string_bytes read.text))) }
     ensures document { IfOk result (λ read. OnSome read.written (may_be_xml bytes.now ≡ true)) }
+    ensures decoded { IfOk result (λ read. OnOk read.outline (IsDecodedIn bytes.now read.written)) }
+    ensures kept { IfOk result (λ read. IsKeptIn bytes.now read.written) }
 {
     if is_xml(bytes) {
         return document_text(alloc, bytes);
@@ -142,6 +144,7 @@ fn unread_text(alloc: Global, bytes: &[u8], at: usize) -> Result<FileText, Alloc
 fn faulty_document(alloc: Global, source: String, fault: FileTextFault) -> FileText
     ensures faulty { IsErr result.outline }
     ensures written { IsSome result.written }
+    ensures unmade { IfSome result.written (λ w. IsNone w.origins) }
 {
     FileText {
         text: String::new(alloc),
@@ -155,7 +158,9 @@ fn faulty_document(alloc: Global, source: String, fault: FileTextFault) -> FileT
 
 /// The compact text of a document in the XML syntax, and its outline.
 fn document_text(alloc: Global, bytes: &[u8]) -> Result<FileText, AllocError>
-    ensures { IfOk result (λ read. IsSome read.written) }
+    ensures written { IfOk result (λ read. IsSome read.written) }
+    ensures decoded { IfOk result (λ read. OnOk read.outline (IsDecodedIn bytes.now read.written)) }
+    ensures kept { IfOk result (λ read. IsKeptIn bytes.now read.written) }
 {
     let source = match decode(alloc, bytes) {
         Ok(source) => source,

@@ -1,12 +1,10 @@
--- Characters of an XML document (XML 1.0 Fifth Edition, 2.2 to 2.4, 2.11, 3.3.3 and 4.1). A production is a relation:
--- `N cs x rest` says that the characters cs are an N, which stands for x, and then rest.
-use Rattle.std.specs.Prelude.{◌≡◌, ◌≢◌, ℕ, Bool, true, false, not, ◌||◌, ◌==◌, List, [], ◌∷◌, ◌++◌, codes}
+-- Characters of an XML document (XML 1.0 Fifth Edition, 2.4, 2.11 and 3.3.3), as far as they are read in fewer ways than all documents. A
+-- production is a relation: `N cs x rest` says that the characters cs are an N, which stands for x, and then rest.
+use Rattle.std.specs.Prelude.{◌≡◌, ◌≢◌, ℕ, Bool, true, false, not, ◌||◌, ◌==◌, List, [], ◌∷◌, ◌++◌}
 use Rattle.std.specs.List.{list_all}
-use Rattle.std.specs.Char.{is_ascii_digit, is_ascii_hexdigit}
-use Rattle.std.specs.Str.Parse.{digits_value}
 use Rattle.rn_text.specs.Texts.{is_white}
-use Rattle.rn_text.specs.Characters.{is_xml_char}
 use Rattle.rn_text.specs.Segments.{begins_with}
+use Rattle.rn_xml.specs.XmlCharacters.{IsReference}
 
 -- the first characters, with each line end as one line feed, are the second (2.11)
 pub data HasLines : List ℕ → List ℕ → Type 0 where
@@ -14,32 +12,6 @@ pub data HasLines : List ℕ → List ℕ → Type 0 where
   pair : {cs ds : List ℕ} → HasLines cs ds → HasLines (13 ∷ 10 ∷ cs) (10 ∷ ds)
   lone : {cs ds : List ℕ} → begins_with (λ c. c == 10) cs ≡ false → HasLines cs ds → HasLines (13 ∷ cs) (10 ∷ ds)
   itself : {c : ℕ} {cs ds : List ℕ} → (c == 13) ≡ false → HasLines cs ds → HasLines (c ∷ cs) (c ∷ ds)
-
--- S? , where S ::= (#x20 | #x9 | #xD | #xA)+ (production 3)
-pub data MaySpace : List ℕ → List ℕ → Type 0 where
-  none : {rest : List ℕ} → MaySpace rest rest
-  white : {c : ℕ} {cs rest : List ℕ} → is_white c ≡ true → MaySpace cs rest → MaySpace (c ∷ cs) rest
-
--- S
-pub data IsSpace : List ℕ → List ℕ → Type 0 where
-  white : {c : ℕ} {cs rest : List ℕ} → is_white c ≡ true → MaySpace cs rest → IsSpace (c ∷ cs) rest
-
--- the predefined entities: no others are declared in a document without a document type declaration (4.6)
-pub data IsEntity : List ℕ → ℕ → Type 0 where
-  amp : IsEntity (codes "amp") 38
-  lt : IsEntity (codes "lt") 60
-  gt : IsEntity (codes "gt") 62
-  apos : IsEntity (codes "apos") 39
-  quot : IsEntity (codes "quot") 34
-
--- Reference ::= EntityRef | CharRef, EntityRef ::= '&' Name ';', CharRef ::= '&#' [0-9]+ ';' | '&#x' [0-9a-fA-F]+ ';'
--- (productions 66 to 68, with the constraint Legal Character)
-pub data IsReference : List ℕ → ℕ → List ℕ → Type 0 where
-  entity : {name rest : List ℕ} {c : ℕ} → IsEntity name c → IsReference (38 ∷ (name ++ 59 ∷ rest)) c rest
-  decimal : {digits rest : List ℕ} → digits ≢ [] → list_all is_ascii_digit digits ≡ true → is_xml_char (digits_value 10 digits) ≡ true
-      → IsReference (38 ∷ 35 ∷ (digits ++ 59 ∷ rest)) (digits_value 10 digits) rest
-  hexadecimal : {digits rest : List ℕ} → digits ≢ [] → list_all is_ascii_hexdigit digits ≡ true → is_xml_char (digits_value 16 digits) ≡ true
-      → IsReference (38 ∷ 35 ∷ 120 ∷ (digits ++ 59 ∷ rest)) (digits_value 16 digits) rest
 
 -- a character that may stand in character data: neither `<` nor `&`
 abbrev pub is_data_char : ℕ → Bool
@@ -61,15 +33,15 @@ pub data IsCharacters : List ℕ → List ℕ → List ℕ → Type 0 where
 abbrev pub is_value_char : ℕ → ℕ → Bool
 is_value_char quote c = not (c == 60 || c == 38 || c == quote || is_white c)
 
--- ([^<&"] | Reference)* '"' , the same for `'` (of production 10, with the constraint No < in Attribute Values), and the normalised
--- value: white space that is no reference is a space (3.3.3)
+-- what stands behind the opening quote of a value, without the end of it: `([^<&"] | Reference)* '"'`, the same for `'` (of production 10,
+-- with the constraint No < in Attribute Values), and the normalised text, in which white space that is no reference is a space (3.3.3)
 pub data IsValue (quote : ℕ) : List ℕ → List ℕ → List ℕ → Type 0 where
-  close : {rest : List ℕ} → IsValue quote (quote ∷ rest) [] rest
-  itself : {c : ℕ} {cs value rest : List ℕ} → is_value_char quote c ≡ true → IsValue quote cs value rest → IsValue quote (c ∷ cs) (c ∷ value) rest
-  white : {c : ℕ} {cs value rest : List ℕ} → is_white c ≡ true → IsValue quote cs value rest → IsValue quote (c ∷ cs) (32 ∷ value) rest
-  reference : {c : ℕ} {cs mid value rest : List ℕ} → IsReference cs c mid → IsValue quote mid value rest → IsValue quote cs (c ∷ value) rest
+  close : {behind : List ℕ} → IsValue quote (quote ∷ behind) [] behind
+  itself : {c : ℕ} {cs text behind : List ℕ} → is_value_char quote c ≡ true → IsValue quote cs text behind → IsValue quote (c ∷ cs) (c ∷ text) behind
+  white : {c : ℕ} {cs text behind : List ℕ} → is_white c ≡ true → IsValue quote cs text behind → IsValue quote (c ∷ cs) (32 ∷ text) behind
+  reference : {c : ℕ} {cs mid text behind : List ℕ} → IsReference cs c mid → IsValue quote mid text behind → IsValue quote cs (c ∷ text) behind
 
--- AttValue ::= '"' ([^<&"] | Reference)* '"' | "'" ([^<&'] | Reference)* "'" (production 10)
+-- AttValue: a value between two quotes, or between two apostrophes (production 10)
 pub data IsAttValue : List ℕ → List ℕ → List ℕ → Type 0 where
-  double : {cs value rest : List ℕ} → IsValue 34 cs value rest → IsAttValue (34 ∷ cs) value rest
-  single : {cs value rest : List ℕ} → IsValue 39 cs value rest → IsAttValue (39 ∷ cs) value rest
+  double : {cs text behind : List ℕ} → IsValue 34 cs text behind → IsAttValue (34 ∷ cs) text behind
+  single : {cs text behind : List ℕ} → IsValue 39 cs text behind → IsAttValue (39 ∷ cs) text behind

@@ -1,14 +1,16 @@
 -- Documents of XML with their infoset (XML 1.0 Fifth Edition, 2.1, 2.8, 3 and 4.3.3), as far as a schema of one file uses them: no
 -- document type declaration, comments, processing instructions, CDATA sections and prefixes.
-use Rattle.std.specs.Prelude.{◌≡◌, ◌≢◌, ℕ, Bool, true, not, ◌&&◌, ◌||◌, if◌then◌else◌, List, [], ◌∷◌, ◌++◌, codes, bytes_eq, encode_utf8_all}
+use Rattle.std.specs.Prelude.{◌≡◌, ℕ, Bool, true, not, ◌&&◌, ◌||◌, if◌then◌else◌, List, [], ◌∷◌, ◌++◌, codes, bytes_eq, encode_utf8_all}
 use Rattle.std.specs.List.{list_all}
-use Rattle.std.specs.Char.{is_ascii_digit}
 use Rattle.rn_text.specs.Texts.{Text, is_white}
 use Rattle.rn_pattern.specs.Document.{Item, Items, node, string, no_items, more_items}
-use Rattle.rn_rng.specs.XmlCharacters.{HasLines, MaySpace, IsSpace, IsCharacters}
+use Rattle.rn_xml.specs.XmlCharacters.{MaySpace, IsSpace}
+use Rattle.rn_xml.specs.XmlDocuments.{IsQuoted, IsVersionInfo}
+use Rattle.rn_xml.specs.XmlTags.{IsEq}
+use Rattle.rn_rng.specs.XmlCharacters.{HasLines, IsCharacters}
 use Rattle.rn_text.specs.Characters.{is_xml_char}
 use Rattle.rn_rng.specs.Translation.{rng_uri}
-use Rattle.rn_rng.specs.XmlTags.{IsEq, Written, default_inside, ordinary, IsTagFront, IsEndTag}
+use Rattle.rn_rng.specs.XmlTags.{Written, default_inside, ordinary, IsTagFront, IsEndTag}
 
 -- characters between tags as a child: none is none
 abbrev pub with_string : List ℕ → Items → Items
@@ -30,20 +32,6 @@ mutual
     last : {around : Text} {cs text rest : List ℕ} → IsCharacters cs text rest → IsContent around cs (with_string text no_items) rest
     more : {around : Text} {cs text mid after rest : List ℕ} {x : Item} {k : Items} → IsCharacters cs text mid → IsElement around mid x after
         → IsContent around after k rest → IsContent around cs (with_string text (more_items x k)) rest
-
--- characters between quotes, and the text between them
-pub data IsQuoted : List ℕ → List ℕ → List ℕ → Type 0 where
-  double : {text rest : List ℕ} → IsQuoted (34 ∷ (text ++ 34 ∷ rest)) text rest
-  single : {text rest : List ℕ} → IsQuoted (39 ∷ (text ++ 39 ∷ rest)) text rest
-
--- VersionNum ::= '1.' [0-9]+ (production 26)
-pub data IsVersionNum : List ℕ → Type 0 where
-  number : {digits : List ℕ} → digits ≢ [] → list_all is_ascii_digit digits ≡ true → IsVersionNum (49 ∷ 46 ∷ digits)
-
--- VersionInfo ::= S 'version' Eq ("'" VersionNum "'" | '"' VersionNum '"') (production 24)
-pub data IsVersionInfo : List ℕ → List ℕ → Type 0 where
-  version : {number cs mid after rest : List ℕ} → IsSpace cs (codes "version" ++ mid) → IsEq mid after → IsQuoted after number rest
-      → IsVersionNum number → IsVersionInfo cs rest
 
 -- EncodingDecl ::= S 'encoding' Eq ('"' EncName '"' | "'" EncName "'") (productions 80 and 81), for UTF-8, which is what the text is in
 -- (4.3.3). The names of encodings are matched without regard to case; here it is the registered one

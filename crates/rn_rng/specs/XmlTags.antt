@@ -5,11 +5,9 @@ use Rattle.std.specs.List.{AllByRecursion}
 use Rattle.rn_text.specs.Texts.{Text}
 use Rattle.rn_text.specs.Characters.{is_ncname}
 use Rattle.rn_pattern.specs.Document.{Attribute}
-use Rattle.rn_rng.specs.XmlCharacters.{MaySpace, IsSpace, IsAttValue}
-
--- Eq ::= S? '=' S? (production 25)
-pub data IsEq : List ℕ → List ℕ → Type 0 where
-  equals : {cs mid rest : List ℕ} → MaySpace cs (61 ∷ mid) → MaySpace mid rest → IsEq cs rest
+use Rattle.rn_xml.specs.XmlCharacters.{MaySpace, IsSpace}
+use Rattle.rn_xml.specs.XmlTags.{IsEq}
+use Rattle.rn_rng.specs.XmlCharacters.{IsAttValue}
 
 -- an attribute as it is written, a namespace declaration too: its name and its normalised value, in characters
 pub record Written : Type 0 where

@@ -1,12 +1,16 @@
 // The compact text while it is made, with the place that each piece was made for.
-ghost use Rattle.std.specs.Prelude.{◌≡◌, ◌+◌, ◌≤◌, ◌++◌, IsTrue, OnOk, string_bytes, vec_len};
+ghost use Rattle.std.specs.Prelude.{◌≡◌, ◌+◌, ◌<◌, ◌≤◌, ◌++◌, true, false, IsTrue, OnOk, length, string_bytes, vec_len};
+ghost use Rattle.std.specs.Str.{chars};
 ghost use Rattle.std.specs.String.{string_len};
-ghost use Rattle.rn_text.specs.Literals.{literal_bytes};
+ghost use Rattle.rn_text.specs.Parts.{ends_token};
+ghost use Rattle.rn_text.specs.Tokens.{has_mark};
+ghost use Rattle.rn_translate.specs.Cuts.{HasParts, gap, needs_gap};
 ghost use Rattle.rn_translate.specs.Limits.{max_text};
 ghost use Rattle.rn_translate.specs.Origins.{AreRising, AreRising-prop, BeginsWithText, BeginsWithText-prop};
 
 use crate::rng_fault::{RngFault, RngFaultKind};
-use rn_text::write_literal;
+use crate::signs::Sign;
+use rn_text::characters::split_first;
 use std::alloc::Global;
 
 /// The most bytes of a compact text: those of a module's text.
@@ -22,7 +26,14 @@ pub struct Origin {
     pub at: usize,
 }
 
-/// A compact text so far.
+/// Whether a text begins with the character of a byte order mark.
+fn begins_with_mark(text: &str) -> bool
+    ensures { result ≡ has_mark (chars text.now) }
+{
+    matches!(split_first(text), Some(('\u{FEFF}', _)))
+}
+
+/// A compact text so far: white space and whole tokens.
 #[derive(Drop)]
 pub(crate) struct Draft {
     pub text: String,
@@ -31,6 +42,11 @@ pub(crate) struct Draft {
     pub source_len: usize,
     /// The first byte with which a further piece may begin.
     next: usize,
+    /// Whether the text ends with a word, which a further character may lengthen. Where it does, white space, a bracket,
+    /// a comma or a sign of repetition comes next.
+    is_open: bool,
+    ghost parts: { HasParts is_open (string_bytes text) },
+    ghost unmarked: { has_mark (chars (string_bytes text)) ≡ false },
     ghost small: { string_len text ≤ max_text },
     ghost near: { next ≤ string_len text + 1 },
     ghost rising: { AreRising next source_len 0 origins.items } by { AreRising-prop _ _ _ _ },
@@ -47,14 +63,21 @@ impl Draft {
             origins: Vec::new(alloc),
             source_len,
             next: 0,
+            is_open: false,
         }
     }
 
     /// Appends a text that is made for a place. A place after the document's text is its end.
-    #[tactic(auto, using(crate::proofs::RisingOrigins::begins_on))]
-    pub fn put(&mut self, at: usize, text: &str) -> Result<(), RngFault>
+    #[tactic(auto, using(crate::proofs::RisingOrigins::begins_on, crate::proofs::CutTexts::parts_joined, crate::proofs::CutTexts::mark_joined))]
+    fn put(&mut self, at: usize, text: &str, is_open: bool) -> Result<(), RngFault>
+        requires parts { HasParts is_open text.now }
+        requires apart { self.old.is_open ≡ true → ends_token (chars text.now) ≡ true }
+        requires unmarked { has_mark (chars text.now) ≡ true → 0 < string_len self.old.text }
         ensures text { OnOk result (string_bytes self.new.text
             ≡ string_bytes self.old.text ++ text.now) }
+        ensures len { OnOk result (string_len self.new.text
+            ≡ string_len self.old.text + length text.now) }
+        ensures open { OnOk result (0 < length text.now → self.new.is_open ≡ is_open) }
         ensures source { self.new.source_len ≡ self.old.source_len }
     {
         if text.is_empty() {
@@ -66,7 +89,51 @@ impl Draft {
         }
         self.add_origin(from, at)?;
         self.text.push_str(text)?;
+        self.is_open = is_open;
         Ok(())
+    }
+
+    /// Whether a space stands before a token: behind a word, and before what would be a byte order mark at the start of the
+    /// text.
+    fn needs_gap(&self, token: &str) -> bool
+        ensures { result ≡ needs_gap self.now.is_open token.now }
+    {
+        self.is_open || begins_with_mark(token)
+    }
+
+    /// Parts a token from what is before it, by a space where that needs one. The space is made for the place of the piece
+    /// before.
+    fn part(&mut self, at: usize, token: &str) -> Result<(), RngFault>
+        ensures closed { OnOk result (self.new.is_open ≡ false) }
+        ensures unmarked { OnOk result (has_mark (chars token.now) ≡ true
+            → 0 < string_len self.new.text) }
+        ensures text { OnOk result (string_bytes self.new.text
+            ≡ string_bytes self.old.text ++ gap self.old.is_open token.now) }
+        ensures source { self.new.source_len ≡ self.old.source_len }
+    {
+        if !self.needs_gap(token) {
+            return Ok(());
+        }
+        let before = self.origins.last().map_or(at, |origin| origin.at);
+        self.put(before, " ", false)
+    }
+
+    /// Appends a sign.
+    pub fn put_sign(&mut self, at: usize, sign: Sign) -> Result<(), RngFault>
+        ensures source { self.new.source_len ≡ self.old.source_len }
+    {
+        self.put(at, sign.text(), false)
+    }
+
+    /// Appends a token, parted from what is before it.
+    pub fn put_token(&mut self, at: usize, token: &str, is_open: bool) -> Result<(), RngFault>
+        requires { HasParts is_open token.now }
+        ensures text { OnOk result (string_bytes self.new.text
+            ≡ string_bytes self.old.text ++ (gap self.old.is_open token.now ++ token.now)) }
+        ensures source { self.new.source_len ≡ self.old.source_len }
+    {
+        self.part(at, token)?;
+        self.put(at, token, is_open)
     }
 
     /// Adds the origin of a piece that begins here or later, if it isn't that of the piece before.
@@ -74,6 +141,7 @@ impl Draft {
         requires { from ≤ string_len self.old.text }
         ensures text { self.new.text ≡ self.old.text }
         ensures source { self.new.source_len ≡ self.old.source_len }
+        ensures open { self.new.is_open ≡ self.old.is_open }
         ensures begun { OnOk result (1 ≤ vec_len self.new.origins) }
     {
         let at = at.min(self.source_len);
@@ -85,23 +153,19 @@ impl Draft {
         Ok(())
     }
 
-    /// Appends a text with its origins.
+    /// Appends a text with its origins, parted from what is before it.
     #[tactic(auto, using(crate::proofs::RisingOrigins::begins_on, crate::proofs::RisingOrigins::all_before))]
     pub fn append(&mut self, other: &Draft) -> Result<(), RngFault>
-        ensures text { OnOk result (string_bytes self.new.text
-            ≡ string_bytes self.old.text ++ string_bytes other.now.text) }
+        ensures text { OnOk result (string_bytes self.new.text ≡ string_bytes self.old.text
+            ++ (gap self.old.is_open (string_bytes other.now.text)
+            ++ string_bytes other.now.text)) }
         ensures source { self.new.source_len ≡ self.old.source_len }
     {
-        let before = self.text.len();
-        if other.text.is_empty() {
-            return Ok(());
-        }
-        if other.text.len() > MAX_TEXT - before {
-            return Err(RngFault::new(0, RngFaultKind::Large));
-        }
+        let text = other.text.as_str();
         let first = other.origins.first().map_or(0, |origin| origin.at);
-        self.add_origin(before, first)?;
-        self.text.push_str(other.text.as_str())?;
+        self.part(first, text)?;
+        let before = self.text.len();
+        self.put(first, text, other.is_open)?;
         'origins: for origin in &other.origins {
             self.add_origin(before + origin.from, origin.at)?;
         }
@@ -116,16 +180,5 @@ impl Draft {
             Some(last) => last.at == at,
             None => false,
         }
-    }
-
-    /// Appends the literal of a text.
-    pub fn put_literal(&mut self, alloc: Global, at: usize, text: &str) -> Result<(), RngFault>
-        ensures text { OnOk result (string_bytes self.new.text
-            ≡ string_bytes self.old.text ++ literal_bytes text.now) }
-        ensures source { self.new.source_len ≡ self.old.source_len }
-    {
-        let mut literal = String::new(alloc);
-        write_literal(&mut literal, text)?;
-        self.put(at, literal.as_str())
     }
 }

@@ -2,9 +2,11 @@
 use crate::document_parts::{attribute, trimmed};
 use crate::kinds::{Kind, Role};
 use crate::rng_fault::RngFault;
+use crate::signs::Sign;
 use crate::standing::{Frame, Operator, Standing};
 use crate::translator::{Open, Translator};
 use crate::uris::Uri;
+use rn_text::Keyword;
 use rn_xml::{XmlAttribute, XmlElement};
 
 impl<'d, 'a> Translator<'d, 'a> {
@@ -21,21 +23,21 @@ impl<'d, 'a> Translator<'d, 'a> {
         let at = element.at;
         self.hold_class(open)?;
         match open.holder.kind {
-            Kind::Element => self.write_named(element, open, "element "),
-            Kind::Attribute => self.write_named(element, open, "attribute "),
+            Kind::Element => self.write_named(element, open, Keyword::Element),
+            Kind::Attribute => self.write_named(element, open, Keyword::Attribute),
             Kind::Group => self.write_operands(at, open, Operator::Comma),
             Kind::Interleave => self.write_operands(at, open, Operator::Ampersand),
             Kind::Choice => self.write_operands(at, open, Operator::Bar),
-            Kind::Optional => self.write_repetition(at, open, "?", "?)"),
-            Kind::ZeroOrMore => self.write_repetition(at, open, "*", "*)"),
-            Kind::OneOrMore => self.write_repetition(at, open, "+", "+)"),
-            Kind::List => self.write_braces(at, open, "list { "),
-            Kind::Mixed => self.write_braces(at, open, "mixed { "),
-            Kind::Ref => self.write_reference(element, ""),
-            Kind::ParentRef => self.write_reference(element, "parent "),
-            Kind::Empty | Kind::Text | Kind::NotAllowed => {
-                self.write_keyword(at, open.holder.kind.name())
-            }
+            Kind::Optional => self.write_repetition(at, open, Sign::Question),
+            Kind::ZeroOrMore => self.write_repetition(at, open, Sign::Star),
+            Kind::OneOrMore => self.write_repetition(at, open, Sign::Plus),
+            Kind::List => self.write_braces(at, open, Keyword::List),
+            Kind::Mixed => self.write_braces(at, open, Keyword::Mixed),
+            Kind::Ref => self.write_reference(element),
+            Kind::ParentRef => self.write_parent_reference(element),
+            Kind::Empty => self.write_keyword(at, Keyword::Empty),
+            Kind::Text => self.write_keyword(at, Keyword::Text),
+            Kind::NotAllowed => self.write_keyword(at, Keyword::NotAllowed),
             Kind::Value => self.write_value(element, open),
             Kind::Data => self.write_data(element, open),
             Kind::Param => self.write_param(element, open),
@@ -55,9 +57,9 @@ impl<'d, 'a> Translator<'d, 'a> {
             return Ok(());
         }
         let closing = if around.holder.members(around.children) > 0 {
-            " { "
+            Sign::OpenBrace
         } else {
-            " { text }"
+            Sign::BracedText
         };
         self.hold(Frame::around(open.end, open.at, Standing::Alone, closing))
     }
@@ -67,21 +69,25 @@ impl<'d, 'a> Translator<'d, 'a> {
         &mut self,
         element: &'d XmlElement<'a>,
         open: Open,
-        word: &str,
+        keyword: Keyword,
     ) -> Result<(), RngFault> {
         let at = element.at;
         let _ = self.begin(at)?;
-        self.body.put(at, word)?;
+        self.body.put_keyword(at, keyword)?;
         let members = open.holder.members(open.children);
         if let Some(name) = attribute(self.document, element, "name") {
             self.put_given_name(element, open, name)?;
-            self.body
-                .put(at, if members > 0 { " { " } else { " { text }" })?;
+            let sign = if members > 0 {
+                Sign::OpenBrace
+            } else {
+                Sign::BracedText
+            };
+            self.body.put_sign(at, sign)?;
         }
         if members == 0 {
             return Ok(());
         }
-        self.hold(Frame::around(open.end, at, Standing::Alone, " }"))?;
+        self.hold(Frame::around(open.end, at, Standing::Alone, Sign::CloseBrace))?;
         self.hold_operands(open.end, at, Standing::Alone, Operator::Comma, members)
     }
 
@@ -111,19 +117,11 @@ impl<'d, 'a> Translator<'d, 'a> {
     }
 
     /// Writes what is repeated, or left out: several children are a group (4.12).
-    fn write_repetition(
-        &mut self,
-        at: usize,
-        open: Open,
-        sign: &'static str,
-        closed_sign: &'static str,
-    ) -> Result<(), RngFault> {
-        let is_tight = self.begin(at)? == Standing::Tight;
-        if is_tight {
-            self.body.put(at, "(")?;
+    fn write_repetition(&mut self, at: usize, open: Open, sign: Sign) -> Result<(), RngFault> {
+        if self.begin(at)? == Standing::Tight {
+            self.hold_parenthesis(at, open)?;
         }
-        let closing = if is_tight { closed_sign } else { sign };
-        self.hold(Frame::around(open.end, at, Standing::Tight, closing))?;
+        self.hold(Frame::around(open.end, at, Standing::Tight, sign))?;
         self.hold_operands(
             open.end,
             at,
@@ -133,11 +131,17 @@ impl<'d, 'a> Translator<'d, 'a> {
         )
     }
 
+    /// Writes a parenthesis, and opens what ends with the other one.
+    fn hold_parenthesis(&mut self, at: usize, open: Open) -> Result<(), RngFault> {
+        self.body.put_parenthesis(at)?;
+        self.hold(Frame::around(open.end, at, Standing::Alone, Sign::CloseParenthesis))
+    }
+
     /// Writes what has its content between braces: several children are a group (4.12).
-    fn write_braces(&mut self, at: usize, open: Open, front: &str) -> Result<(), RngFault> {
-        let _ = self.begin(at)?;
-        self.body.put(at, front)?;
-        self.hold(Frame::around(open.end, at, Standing::Alone, " }"))?;
+    fn write_braces(&mut self, at: usize, open: Open, keyword: Keyword) -> Result<(), RngFault> {
+        self.write_keyword(at, keyword)?;
+        self.body.put_sign(at, Sign::OpenBrace)?;
+        self.hold(Frame::around(open.end, at, Standing::Alone, Sign::CloseBrace))?;
         self.hold_operands(
             open.end,
             at,
@@ -147,20 +151,22 @@ impl<'d, 'a> Translator<'d, 'a> {
         )
     }
 
-    /// Writes a pattern that is a keyword.
-    fn write_keyword(&mut self, at: usize, keyword: &str) -> Result<(), RngFault> {
+    /// Writes a pattern that is a keyword, or begins with one.
+    pub fn write_keyword(&mut self, at: usize, keyword: Keyword) -> Result<(), RngFault> {
         let _ = self.begin(at)?;
-        self.body.put(at, keyword)
+        self.body.put_keyword(at, keyword)
     }
 
     /// Writes a reference.
-    fn write_reference(
-        &mut self,
-        element: &'d XmlElement<'a>,
-        front: &str,
-    ) -> Result<(), RngFault> {
+    fn write_reference(&mut self, element: &'d XmlElement<'a>) -> Result<(), RngFault> {
         let _ = self.begin(element.at)?;
-        self.body.put(element.at, front)?;
+        let (at, name) = self.value(element, "name");
+        self.put_identifier(at, name)
+    }
+
+    /// Writes a reference to the grammar around.
+    fn write_parent_reference(&mut self, element: &'d XmlElement<'a>) -> Result<(), RngFault> {
+        self.write_keyword(element.at, Keyword::Parent)?;
         let (at, name) = self.value(element, "name");
         self.put_identifier(at, name)
     }
@@ -170,7 +176,6 @@ impl<'d, 'a> Translator<'d, 'a> {
         let _ = self.begin(element.at)?;
         if let Some(datatype) = attribute(self.document, element, "type") {
             self.put_datatype(datatype.value_at, datatype.value.as_str(), open.library)?;
-            self.body.put(datatype.value_at, " ")?;
         }
         let (at, content) = self.content(open.index, element.at);
         self.body.put_literal(self.alloc, at, content)
@@ -186,12 +191,10 @@ impl<'d, 'a> Translator<'d, 'a> {
     /// Begins what may have an except, with parentheses where that needs them.
     fn begin_excepted(&mut self, at: usize, open: Open) -> Result<(), RngFault> {
         let standing = self.begin(at)?;
-        let is_open = open.has_except && standing != Standing::Alone;
-        if is_open {
-            self.body.put(at, "(")?;
+        if open.has_except && standing != Standing::Alone {
+            return self.hold_parenthesis(at, open);
         }
-        let closing = if is_open { ")" } else { "" };
-        self.hold(Frame::around(open.end, at, Standing::Alone, closing))
+        self.hold(Frame::around(open.end, at, Standing::Alone, Sign::Nothing))
     }
 
     /// Writes a parameter, and the braces round all of them with the first and the last one.
@@ -199,23 +202,27 @@ impl<'d, 'a> Translator<'d, 'a> {
         let Some(around) = self.around() else {
             return Ok(());
         };
-        let front = if around.begun <= 1 { " { " } else { " " };
-        self.body.put(element.at, front)?;
+        let front = if around.begun <= 1 {
+            Sign::OpenBrace
+        } else {
+            Sign::Space
+        };
+        self.body.put_sign(element.at, front)?;
         let (name_at, name) = self.value(element, "name");
-        self.body.put(name_at, trimmed(name))?;
-        self.body.put(name_at, " = ")?;
+        self.put_local_name(name_at, trimmed(name))?;
+        self.body.put_sign(name_at, Sign::Equals)?;
         let (at, content) = self.content(open.index, element.at);
         self.body.put_literal(self.alloc, at, content)?;
         let excepts = usize::from(around.has_except);
         if around.begun.saturating_add(excepts) >= around.children {
-            self.body.put(element.at, " }")?;
+            self.body.put_sign(element.at, Sign::CloseBrace)?;
         }
         Ok(())
     }
 
     /// Writes an except: several children are a choice (4.12).
     fn write_except(&mut self, at: usize, open: Open) -> Result<(), RngFault> {
-        self.body.put(at, " - ")?;
+        self.body.put_sign(at, Sign::Minus)?;
         self.hold_operands(open.end, at, Standing::Tight, Operator::Bar, open.children)
     }
 
@@ -230,10 +237,10 @@ impl<'d, 'a> Translator<'d, 'a> {
     /// Writes the class of all names, or of those of a namespace, without its except.
     fn write_wildcard(&mut self, at: usize, open: Open) -> Result<(), RngFault> {
         self.begin_excepted(at, open)?;
-        if open.holder.kind == Kind::NsName {
-            self.put_prefix(at, open.namespace)?;
-            self.body.put(at, ":")?;
+        if open.holder.kind != Kind::NsName {
+            return self.body.put_any_name(at);
         }
-        self.body.put(at, "*")
+        let prefix = self.prefix_of(at, open.namespace)?;
+        self.body.put_any_of(self.alloc, at, prefix.as_str())
     }
 }

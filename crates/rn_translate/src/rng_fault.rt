@@ -77,6 +77,9 @@ pub enum RngFaultKind {
     /// The prefix of a name, which nothing declares (4.10).
     #[error("the prefix `{0}` is not declared")]
     Prefix(String),
+    /// A value with a character that XML doesn't have. No document that was read has one.
+    #[error("a character that XML does not have can't stand in a schema")]
+    Character,
     /// The compact text would have more than [`MAX_TEXT`](crate::MAX_TEXT) bytes.
     #[error("the schema would have more than 4,194,304 bytes in the compact syntax")]
     Large,

@@ -1,4 +1,5 @@
 // Where a pattern or a name class stands in the compact text, and what is written round it.
+use crate::signs::Sign;
 
 /// An operator between patterns or name classes.
 #[derive(Clone, Copy, Debug, PartialEq, Eq)]
@@ -12,12 +13,12 @@ pub(crate) enum Operator {
 }
 
 impl Operator {
-    /// The operator, as it is written between operands.
-    pub fn text(self) -> &'static str {
+    /// The sign that stands between operands.
+    pub fn sign(self) -> Sign {
         match self {
-            Operator::Comma => ", ",
-            Operator::Ampersand => " & ",
-            Operator::Bar => " | ",
+            Operator::Comma => Sign::Comma,
+            Operator::Ampersand => Sign::Ampersand,
+            Operator::Bar => Sign::Bar,
         }
     }
 }
@@ -54,21 +55,21 @@ pub(crate) struct Frame {
     /// Where what it holds stands.
     pub standing: Standing,
     /// What is written between what it holds.
-    pub separator: &'static str,
+    pub separator: Sign,
     /// What closes it.
-    pub closing: &'static str,
+    pub closing: Sign,
     /// Whether it holds something already.
     pub has_begun: bool,
 }
 
 impl Frame {
     /// A frame that holds one pattern or name class, or items.
-    pub fn around(end: usize, at: usize, standing: Standing, closing: &'static str) -> Frame {
+    pub fn around(end: usize, at: usize, standing: Standing, closing: Sign) -> Frame {
         Frame {
             end,
             at,
             standing,
-            separator: "",
+            separator: Sign::Nothing,
             closing,
             has_begun: false,
         }

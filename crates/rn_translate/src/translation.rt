@@ -1,14 +1,19 @@
 // The compact text of a document, with the place of each piece.
-ghost use Rattle.std.specs.Prelude.{◌≡◌, ◌≤◌, length, IfErr, IfOk};
+ghost use Rattle.std.specs.Prelude.{◌≡◌, ◌≤◌, List, true, length, string_bytes, IfErr, IfOk};
+ghost use Rattle.std.specs.Str.{chars};
 ghost use Rattle.std.specs.String.{string_len};
+ghost use Rattle.rn_text.specs.Characters.{is_name_start};
+ghost use Rattle.rn_text.specs.Tokens.{HasTokens, Lexeme};
 ghost use Rattle.rn_translate.specs.Limits.{max_text};
 ghost use Rattle.rn_translate.specs.Origins.{AreOrigins};
 
 use crate::draft::Draft;
 use crate::rng_fault::RngFault;
+use crate::signs::Sign;
 use crate::translated::{Origins, Translated};
 use crate::translator::Translator;
-use crate::uris::{BoundUri, Uri, Uris};
+use crate::uris::{BoundUri, Uri, Uris, numbered};
+use rn_text::Keyword;
 use rn_xml::XmlDocument;
 use std::alloc::Global;
 
@@ -19,12 +24,14 @@ use std::alloc::Global;
 ///
 /// Refused at the first place where the document is no schema in the XML syntax, where the text would have more than
 /// [`MAX_TEXT`](crate::MAX_TEXT) bytes, and wherever memory is.
-#[tactic(auto, using(crate::proofs::RisingOrigins::in_order_of_draft, crate::proofs::RisingOrigins::pieces_of_draft))]
+#[tactic(auto, using(crate::proofs::CutTexts::parts_have_tokens, crate::proofs::RisingOrigins::in_order_of_draft, crate::proofs::RisingOrigins::pieces_of_draft))]
 pub fn compact_text(
     alloc: Global,
     source: &str,
     document: &XmlDocument<'_>,
 ) -> Result<Translated, RngFault>
+    ensures tokens { IfOk result (λ made. (tokens : List Lexeme)
+        × HasTokens (chars (string_bytes made.text)) tokens) }
     ensures small { IfOk result (λ made. string_len made.text ≤ max_text) }
     ensures origins { IfOk result (λ made. AreOrigins (string_len made.text) (length source.now)
         made.origins.items.items) }
@@ -43,6 +50,7 @@ pub fn compact_text(
 }
 
 /// The compact text of a document: its declarations, and what its elements come to.
+#[tactic(auto, unfolding(rn_text::specs::Characters::is_name_start))]
 fn whole_text(alloc: Global, source: &str, document: &XmlDocument<'_>) -> Result<Draft, RngFault>
     ensures { IfOk result (λ whole. whole.source_len ≡ length source.now) }
 {
@@ -51,20 +59,9 @@ fn whole_text(alloc: Global, source: &str, document: &XmlDocument<'_>) -> Result
     let mut whole = Draft::new(alloc, source.len());
     declare_default(alloc, &mut whole, &translator)?;
     let uris = &translator.uris;
-    declare_all(
-        alloc,
-        &mut whole,
-        uris,
-        "namespace n",
-        &translator.namespaces.bound,
-    )?;
-    declare_all(
-        alloc,
-        &mut whole,
-        uris,
-        "datatypes d",
-        &translator.libraries.bound,
-    )?;
+    let (namespaces, libraries) = (&translator.namespaces.bound, &translator.libraries.bound);
+    declare_all(alloc, &mut whole, uris, Keyword::Namespace, 'n', namespaces)?;
+    declare_all(alloc, &mut whole, uris, Keyword::Datatypes, 'd', libraries)?;
     whole.append(&translator.body)?;
     Ok(whole)
 }
@@ -84,43 +81,46 @@ fn declare_default(
         uri: translator.default,
         at: 0,
     };
-    declare(alloc, whole, &translator.uris, "default namespace", bound)
+    whole.put_keyword(bound.at, Keyword::Default)?;
+    whole.put_keyword(bound.at, Keyword::Namespace)?;
+    declare(alloc, whole, &translator.uris, bound)
 }
 
-/// Declares prefixes: a letter and a number, from 1 on.
+/// Declares prefixes, by this keyword: this letter and a number, from 1 on.
 fn declare_all(
     alloc: Global,
     whole: &mut Draft,
     uris: &Uris<'_>,
-    front: &str,
+    keyword: Keyword,
+    letter: char,
     bound: &[BoundUri],
 ) -> Result<(), RngFault>
+    requires { is_name_start letter ≡ true }
     ensures { whole.new.source_len ≡ whole.old.source_len }
 {
     for (before, bound) in bound.iter().enumerate() {
-        let number = before + 1;
-        let declared = format!(in alloc; "{front}{number}")?;
-        declare(alloc, whole, uris, declared.as_str(), *bound)?;
+        whole.put_keyword(bound.at, keyword)?;
+        let prefix = numbered(alloc, letter, before + 1)?;
+        whole.put_word(bound.at, prefix.as_str())?;
+        declare(alloc, whole, uris, *bound)?;
     }
     Ok(())
 }
 
-/// Declares what is bound to a URI.
+/// Writes the URI that is bound, behind what it is bound to.
 fn declare(
     alloc: Global,
     whole: &mut Draft,
     uris: &Uris<'_>,
-    declared: &str,
     bound: BoundUri,
 ) -> Result<(), RngFault>
     ensures { whole.new.source_len ≡ whole.old.source_len }
 {
-    whole.put(bound.at, declared)?;
-    whole.put(bound.at, " = ")?;
+    whole.put_sign(bound.at, Sign::Equals)?;
     if bound.uri == Uri::INHERITED {
-        whole.put(bound.at, "inherit")?;
+        whole.put_keyword(bound.at, Keyword::Inherit)?;
     } else {
         whole.put_literal(alloc, bound.at, uris.text(bound.uri))?;
     }
-    whole.put(bound.at, "\n")
+    whole.put_sign(bound.at, Sign::LineEnd)
 }

@@ -6,6 +6,7 @@ use crate::document_parts::{Shape, attribute, is_white_space, rng_index, shapes_
 use crate::draft::Draft;
 use crate::kinds::{Kind, Role};
 use crate::rng_fault::{RngFault, RngFaultKind, shown};
+use crate::signs::Sign;
 use crate::standing::{Frame, Operator, Standing};
 use crate::uris::{Prefixes, Uri, Uris};
 use rn_xml::{Scopes, XmlDocument, XmlElement};
@@ -113,7 +114,14 @@ impl<'d, 'a> Translator<'d, 'a> {
     /// Ends the last line, if it isn't ended.
     fn end_line(&mut self) -> Result<(), RngFault> {
         let is_ended = self.body.text.is_empty() || self.body.text.ends_with('\n');
-        self.body.put(0, if is_ended { "" } else { "\n" })
+        self.body.put_sign(
+            0,
+            if is_ended {
+                Sign::Nothing
+            } else {
+                Sign::LineEnd
+            },
+        )
     }
 
     /// Passes the texts before a place. Refused where one can't be.
@@ -176,7 +184,7 @@ impl<'d, 'a> Translator<'d, 'a> {
                 break;
             }
             let _ = self.frames.pop();
-            self.body.put(frame.at, frame.closing)?;
+            self.body.put_sign(frame.at, frame.closing)?;
         }
         Ok(())
     }
@@ -372,7 +380,7 @@ impl<'d, 'a> Translator<'d, 'a> {
         let (standing, separator, has_begun) = (frame.standing, frame.separator, frame.has_begun);
         frame.has_begun = true;
         if has_begun {
-            self.body.put(at, separator)?;
+            self.body.put_sign(at, separator)?;
         }
         Ok(standing)
     }
@@ -393,18 +401,22 @@ impl<'d, 'a> Translator<'d, 'a> {
         count: usize,
     ) -> Result<(), RngFault> {
         if count <= 1 {
-            return self.hold(Frame::around(end, at, standing, ""));
+            return self.hold(Frame::around(end, at, standing, Sign::Nothing));
         }
         let is_open = standing.needs_parentheses(operator);
         if is_open {
-            self.body.put(at, "(")?;
+            self.body.put_parenthesis(at)?;
         }
         self.hold(Frame {
             end,
             at,
             standing: Standing::Beside(operator),
-            separator: operator.text(),
-            closing: if is_open { ")" } else { "" },
+            separator: operator.sign(),
+            closing: if is_open {
+                Sign::CloseParenthesis
+            } else {
+                Sign::Nothing
+            },
             has_begun: false,
         })
     }

@@ -1,4 +1,8 @@
 // Namespaces and datatype libraries, and their prefixes in the compact text.
+ghost use Rattle.std.specs.Prelude.{◌≡◌, true, IfOk, string_bytes};
+ghost use Rattle.std.specs.Str.{chars};
+ghost use Rattle.rn_text.specs.Characters.{is_name_start, is_ncname};
+
 use std::alloc::{AllocError, Global};
 use std::collections::BTreeMap;
 
@@ -67,6 +71,15 @@ impl<'d> Uris<'d> {
         }
         Ok(Uri(self.add(text)?))
     }
+}
+
+/// A prefix: a letter, and a number behind it.
+#[tactic(auto, using(crate::proofs::NumberedNames::numbered_name))]
+pub(crate) fn numbered(alloc: Global, letter: char, number: usize) -> Result<String, AllocError>
+    requires { is_name_start letter ≡ true }
+    ensures { IfOk result (λ prefix. is_ncname (chars (string_bytes prefix)) ≡ true) }
+{
+    format!(in alloc; "{letter}{number}")
 }
 
 /// A URI to which a prefix is bound.

@@ -1,11 +1,15 @@
 // Names in a schema, and how they are written in the compact text (RELAX NG 2001, 4.2 and 4.8 to 4.10).
+ghost use Rattle.std.specs.Prelude.{◌≡◌, true, IfOk, OnOk, string_bytes};
+ghost use Rattle.std.specs.Str.{chars};
+ghost use Rattle.rn_text.specs.Characters.{is_ncname};
+
 use crate::content::may_have;
 use crate::document_parts::trimmed;
 use crate::kinds::Kind;
 use crate::rng_fault::{RngFault, RngFaultKind, shown};
 use crate::translator::Translator;
-use crate::uris::Uri;
-use rn_text::{is_keyword, is_ncname};
+use crate::uris::{Uri, numbered};
+use rn_text::is_ncname;
 use rn_xml::{NO_NAMESPACE, XML_NAMESPACE, XmlAttribute, XmlElement};
 
 /// The part of a qualified name before its colon, if it has one, and the rest.
@@ -78,7 +82,9 @@ impl<'d, 'a> Translator<'d, 'a> {
     }
 
     /// Looks at a name without a colon.
-    fn check_local_name(&self, at: usize, name: &str) -> Result<(), RngFault> {
+    fn check_local_name(&self, at: usize, name: &str) -> Result<(), RngFault>
+        ensures { OnOk result (is_ncname (chars name.now) ≡ true) }
+    {
         if is_ncname(name) {
             return Ok(());
         }
@@ -127,43 +133,54 @@ impl<'d, 'a> Translator<'d, 'a> {
     ) -> Result<(), RngFault> {
         let (prefix, local) = split_name(trimmed(text));
         let namespace = self.name_namespace(prefix, unprefixed);
-        if namespace != bare {
-            self.put_prefix(at, namespace)?;
-            self.body.put(at, ":")?;
+        if namespace == bare {
+            return self.put_local_name(at, local);
         }
-        self.body.put(at, local)
+        self.check_local_name(at, local)?;
+        let prefix = self.prefix_of(at, namespace)?;
+        self.body
+            .put_prefixed(self.alloc, at, prefix.as_str(), local)
     }
 
-    /// Writes the prefix of a namespace.
-    pub fn put_prefix(&mut self, at: usize, namespace: Uri) -> Result<(), RngFault> {
+    /// Writes a name without a colon.
+    pub fn put_local_name(&mut self, at: usize, name: &str) -> Result<(), RngFault> {
+        self.check_local_name(at, name)?;
+        self.body.put_word(at, name)
+    }
+
+    /// The prefix of a namespace, which is needed at this place.
+    #[tactic(auto, using(crate::proofs::NumberedNames::xml_name), unfolding(rn_text::specs::Characters::is_name_start))]
+    pub fn prefix_of(&mut self, at: usize, namespace: Uri) -> Result<String, RngFault>
+        ensures { IfOk result (λ prefix. is_ncname (chars (string_bytes prefix)) ≡ true) }
+    {
         if namespace == Uri::XML {
-            return self.body.put(at, "xml");
+            return Ok(String::from_str(self.alloc, "xml")?);
         }
         let number = self.namespaces.number(namespace, at)?;
-        let prefix = format!(in self.alloc; "n{number}")?;
-        self.body.put(at, prefix.as_str())
+        Ok(numbered(self.alloc, 'n', number)?)
     }
 
-    /// Writes the name of a definition, after a backslash if it is a keyword.
+    /// Writes the name of a definition.
     pub fn put_identifier(&mut self, at: usize, text: &str) -> Result<(), RngFault> {
         let name = trimmed(text);
-        if is_keyword(name) {
-            self.body.put(at, "\\")?;
-        }
-        self.body.put(at, name)
+        self.check_local_name(at, name)?;
+        self.body.put_identifier(self.alloc, at, name)
     }
 
     /// Writes the name of a datatype of a library (4.3 and 4.4).
+    #[tactic(auto, using(crate::proofs::NumberedNames::xsd_name), unfolding(rn_text::specs::Characters::is_name_start))]
     pub fn put_datatype(&mut self, at: usize, text: &str, library: Uri) -> Result<(), RngFault> {
         let name = trimmed(text);
-        let is_builtin = library == Uri::EMPTY && matches!(name.as_bytes(), b"string" | b"token");
+        self.check_local_name(at, name)?;
         if library == Uri::XSD {
-            self.body.put(at, "xsd:")?;
-        } else if !is_builtin {
-            let number = self.libraries.number(library, at)?;
-            let prefix = format!(in self.alloc; "d{number}:")?;
-            self.body.put(at, prefix.as_str())?;
+            return self.body.put_prefixed(self.alloc, at, "xsd", name);
         }
-        self.body.put(at, name)
+        if library == Uri::EMPTY && matches!(name.as_bytes(), b"string" | b"token") {
+            return self.body.put_word(at, name);
+        }
+        let number = self.libraries.number(library, at)?;
+        let prefix = numbered(self.alloc, 'd', number)?;
+        self.body
+            .put_prefixed(self.alloc, at, prefix.as_str(), name)
     }
 }

@@ -1,13 +1,13 @@
 -- Texts that begin with characters of ASCII, whose codes are their bytes.
-use Rattle.std.proofs.Common.{◌≡◌, ℕ, ◌<◌, ◌+◌, true, List, [], ◌∷◌, ◌++◌, length, drop, ap, ◌∙◌, arith, zero, suc, lit<, Bor, Some, None}
+use Rattle.std.proofs.Common.{◌≡◌, ◌≢◌, ℕ, ◌<◌, ◌+◌, true, List, [], ◌∷◌, ◌++◌, length, drop, sym, ap, ◌∙◌, arith, zero, suc, lit<, Bor, Some, None}
 use Rattle.std.proofs.lemmas.Bool.{and_parts}
 use Rattle.std.proofs.lemmas.Bool.Decides.{nat_tests}
 use Rattle.std.specs.Char.{is_ascii}
 use Rattle.std.specs.List.{list_all}
-use Rattle.std.specs.Prelude.{Option, IfSome, MatchOption}
-use Rattle.std.specs.Str.{IsAscii, chars}
+use Rattle.std.specs.Prelude.{Option, MatchOption}
+use Rattle.std.specs.Str.{IsAscii, IsUtf8, chars, encode_utf8_all}
 use Rattle.std.specs.Str.Pattern.{FindsTextPrefix}
-use Rattle.std.proofs.lemmas.Str.{chars-append, chars-IsAscii, IsUtf8-from_ascii}
+use Rattle.std.proofs.lemmas.Str.{chars-append, chars-IsAscii, IsUtf8-from_ascii, encodes-chars, encodes-append, encodes-IsAscii}
 use Rattle.rn_xml.proofs.Lengths.{front_stripped}
 
 small_byte : (b : ℕ) → is_ascii b ≡ true → b < 128
@@ -26,8 +26,8 @@ pub chars_behind : (front bs rest : List ℕ) → list_all is_ascii front ≡ tr
 chars_behind front bs rest all e =
     ap chars e ∙ chars-append front rest (IsUtf8-from_ascii front (ascii_bytes front all)) ∙ ap (λ l. l ++ chars rest) (ascii_chars front all)
 
-pub front_chars_stripped : (front bs : List ℕ) (r : Option (Bor (List ℕ))) → list_all is_ascii front ≡ true
+pub front_chars_stripped : (front bs : List ℕ) (r : Option (Bor (List ℕ))) → IsUtf8 bs → list_all is_ascii front ≡ true
     → MatchOption r (FindsTextPrefix front bs None) (λ x. (n : ℕ) × FindsTextPrefix front bs (Some n) × (x.now ≡ drop n bs) × (length x.now + n ≡ length bs))
-    → IfSome r (λ x. chars bs ≡ front ++ chars x.now)
-front_chars_stripped front bs None all h = tt
-front_chars_stripped front bs (Some x) all h = chars_behind front bs x.now all (front_stripped front bs (Some x) h)
+    → MatchOption r ((behind : List ℕ) → chars bs ≢ front ++ behind) (λ x. chars bs ≡ front ++ chars x.now)
+front_chars_stripped front bs None u all h = λ behind e. h (encode_utf8_all behind) (sym (encodes-chars bs u) ∙ ap encode_utf8_all e ∙ encodes-append front behind ∙ ap (λ l. l ++ encode_utf8_all behind) (encodes-IsAscii front (ascii_bytes front all)))
+front_chars_stripped front bs (Some x) u all h = chars_behind front bs x.now all (front_stripped front bs (Some x) h)

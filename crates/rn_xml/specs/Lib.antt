@@ -1,5 +1,10 @@
 pub mod inside
 pub mod DocumentTables
+pub mod DocumentTrees
 pub mod Encodings
+pub mod Infoset
 pub mod PrefixScopes
 pub mod TableRows
+pub mod XmlCharacters
+pub mod XmlDocuments
+pub mod XmlTags

@@ -1,12 +1,14 @@
 // Characters, white space and names (XML 1.0 Fifth Edition, 2.2 and 2.3; Namespaces in XML 1.0, 4).
-ghost use Rattle.std.specs.Prelude.{◌≡◌, ◌==◌, ◌∷◌, ◌++◌, ◌<◌, ◌≤◌, [], false, true, length, IfSome, MatchOption};
+ghost use Rattle.std.specs.Prelude.{◌≡◌, ◌==◌, ◌≢◌, ◌∷◌, ◌++◌, ◌<◌, ◌≤◌, List, ℕ, [], false, true, length, IfOk, IfSome, MatchOption};
 ghost use Rattle.std.specs.Char.{is_ascii};
 ghost use Rattle.std.specs.List.{list_all};
 ghost use Rattle.std.specs.Str.{chars, IsUtf8};
 ghost use Rattle.rn_text.specs.Characters.{is_xml_char, is_ncname, is_name_char};
 ghost use Rattle.rn_text.specs.Segments.{after_run, begins_with, run_of};
 ghost use Rattle.rn_text.specs.Texts.{AnswersUtf8, LeavesUtf8, is_white};
-ghost use Rattle.rn_xml.specs.inside.Rests.{GoesOn};
+ghost use Rattle.rn_xml.specs.XmlCharacters.{IsSpace, MaySpace};
+ghost use Rattle.rn_xml.specs.inside.Pieces.{SplitsName};
+ghost use Rattle.rn_xml.specs.inside.Rests.{GoesOn, source};
 
 use crate::stop::Stop;
 use crate::xml_fault::XmlFaultKind;
@@ -54,7 +56,8 @@ pub(crate) fn begins(text: &str, c: char) -> bool
 pub(crate) fn after_front<'a>(text: &'a str, front: &str) -> Option<&'a str>
     requires some { 0 < length front.now }
     requires ascii { list_all is_ascii front.now ≡ true }
-    ensures cases { IfSome result (λ rest. chars text.now ≡ front.now ++ chars rest.now) }
+    ensures cases { MatchOption result ((behind : List ℕ) → chars text.now ≢ front.now ++ behind)
+        (λ rest. chars text.now ≡ front.now ++ chars rest.now) }
     ensures utf8 { AnswersUtf8 result }
     ensures shorter { IfSome result (λ rest. length rest.now < length text.now) }
 {
@@ -80,6 +83,9 @@ pub(crate) fn is_white(c: char) -> bool
 pub(crate) fn after_space(text: &str) -> &str
     ensures run { chars result.now ≡ after_run is_white (chars text.now) }
     ensures no_longer { length result.now ≤ length text.now }
+    ensures space { MaySpace (source text.now) (source result.now) }
+    ensures some { length result.now ≢ length text.now → IsSpace (source text.now)
+        (source result.now) }
 {
     text.trim_start_matches(is_white)
 }
@@ -104,7 +110,10 @@ pub(crate) fn split_ncname(text: &str) -> Option<(&str, &str)>
 
 /// The name at the front, with at most one colon within it, and what follows it (Namespaces in XML 1.0, production 7).
 pub(crate) fn split_qname(text: &str) -> Result<(QName<'_>, &str), Stop>
-    ensures { GoesOn text.now result }
+    ensures reads { GoesOn text.now result }
+    ensures name { IfOk result (λ p. SplitsName (source text.now) p.0 (source p.1.now)) }
+    ensures utf8 { IfOk result
+        (λ p. IsUtf8 p.0.prefix.now × IsUtf8 p.0.local.now × IsUtf8 p.1.now) }
 {
     let wrong = Stop::before(text, XmlFaultKind::Name);
     let (first, rest) = split_ncname(text).ok_or(wrong)?;

@@ -1,9 +1,16 @@
 // The XML declaration (XML 1.0 Fifth Edition, productions 23 to 26, 32, 80 and 81).
-ghost use Rattle.std.specs.Char.{is_ascii};
+ghost use Rattle.std.specs.Char.{is_ascii, is_ascii_digit};
 ghost use Rattle.std.specs.List.{list_all};
-ghost use Rattle.std.specs.Prelude.{◌≡◌, true, ◌<◌, length, IfSome};
-ghost use Rattle.rn_xml.specs.inside.Rests.{IsNoLonger, IsShorter, MayGoPast};
+ghost use Rattle.std.specs.Prelude.{◌≡◌, ◌↔◌, ◌++◌, false, true, ◌<◌, length, EachIndex, IfOk, IfSome, IsTrue, MatchOption, codes, slice_index};
+ghost use Rattle.std.specs.Str.{IsUtf8};
+ghost use Rattle.rn_text.specs.Segments.{begins_with};
+ghost use Rattle.rn_text.specs.Texts.{AnswersUtf8, is_white};
+ghost use Rattle.rn_xml.specs.XmlDocuments.{IsVersionNum, IsEncName, is_encoding_char, MayDeclareEncoding, MayBeStandalone, MayDeclare};
+ghost use Rattle.rn_xml.specs.Encodings.{NamesEncoding};
+ghost use Rattle.rn_xml.specs.inside.Declared.{IsOnlyField, LacksField, NamesNone, OpensNone};
+ghost use Rattle.rn_xml.specs.inside.Rests.{IsNoLonger, IsShorter, MayGoPast, source};
 ghost use Rattle.rn_xml.specs.inside.Fields.{IsFieldOf};
+ghost use Rattle.rn_xml.specs.inside.Pieces.{IsNamedField, is_inner};
 
 use crate::characters::{after_char, after_front, after_space, split_char};
 use crate::stop::Stop;
@@ -25,7 +32,14 @@ pub(crate) struct Field<'a> {
 fn split_field<'a>(text: &'a str, name: &str) -> Option<Field<'a>>
     requires some { 0 < length name.now }
     requires ascii { list_all is_ascii name.now ≡ true }
-    ensures { IfSome result (IsFieldOf text.now) }
+    requires inner { list_all is_inner name.now ≡ true }
+    requires word { begins_with is_white name.now ≡ false }
+    ensures within { IfSome result (IsFieldOf text.now) }
+    ensures field { IfSome result
+        (λ f. IsNamedField name.now (source text.now) (source f.value.now) (source f.rest.now)) }
+    ensures only { MatchOption result (LacksField name.now (source text.now))
+        (λ f. IsOnlyField name.now (source text.now) (source f.value.now) (source f.rest.now)) }
+    ensures utf8 { IfSome result (λ f. IsUtf8 f.value.now × IsUtf8 f.rest.now) }
 {
     let spaced = after_space(text);
     if spaced.len() == text.len() {
@@ -44,28 +58,55 @@ fn split_field<'a>(text: &'a str, name: &str) -> Option<Field<'a>>
     })
 }
 
+/// Whether each byte is a digit.
+fn are_digits(bytes: &[u8]) -> bool
+    ensures { IsTrue result ↔ EachIndex bytes.now
+        (λ k. is_ascii_digit (slice_index bytes.now k) ≡ true) }
+{
+    bytes.iter().all(|b| b.is_ascii_digit())
+}
+
 /// Whether the text is a version that this standard speaks of (XML 1.0, production 26).
-fn is_version(text: &str) -> bool {
-    match text.strip_prefix("1.") {
-        Some(digits) => !digits.is_empty() && digits.bytes().all(|b| b.is_ascii_digit()),
+fn is_version(text: &str) -> bool
+    ensures { result ≡ true ↔ IsVersionNum (source text.now) }
+{
+    match after_front(text, "1.") {
+        Some(digits) => !digits.is_empty() && are_digits(digits.as_bytes()),
         None => false,
     }
 }
 
+/// Whether the byte may stand in the name of an encoding.
+fn is_encoding_byte(b: u8) -> bool
+    ensures { result ≡ is_encoding_char b }
+{
+    b.is_ascii_alphanumeric() || matches!(b, b'.' | b'_' | b'-')
+}
+
+/// Whether each byte may stand in the name of an encoding.
+fn are_encoding_bytes(bytes: &[u8]) -> bool
+    ensures { IsTrue result ↔ EachIndex bytes.now
+        (λ k. is_encoding_char (slice_index bytes.now k) ≡ true) }
+{
+    bytes.iter().all(|b| is_encoding_byte(*b))
+}
+
 /// Whether the text may name an encoding (XML 1.0, production 81).
-fn is_encoding_name(text: &str) -> bool {
+fn is_encoding_name(text: &str) -> bool
+    ensures { result ≡ true → IsEncName (source text.now) }
+{
     match text.as_bytes() {
-        [first, rest @ ..] => {
-            first.is_ascii_alphabetic()
-                && rest.iter().all(|b| b.is_ascii_alphanumeric() || matches!(b, b'.' | b'_' | b'-'))
-        }
+        [first, rest @ ..] => first.is_ascii_alphabetic() && are_encoding_bytes(rest),
         [] => false,
     }
 }
 
 /// What follows the encoding at the front, where one is declared.
 fn after_encoding(text: &str) -> Option<&str>
-    ensures { IfSome result (IsNoLonger text.now) }
+    ensures reads { IfSome result (IsNoLonger text.now) }
+    ensures encoding { IfSome result
+        (λ rest. MayDeclareEncoding (source text.now) (source rest.now)) }
+    ensures utf8 { AnswersUtf8 result }
 {
     match split_field(text, "encoding") {
         None => Some(text),
@@ -76,7 +117,10 @@ fn after_encoding(text: &str) -> Option<&str>
 
 /// What follows the standalone declaration at the front, where there is one.
 fn after_standalone(text: &str) -> Option<&str>
-    ensures { IfSome result (IsNoLonger text.now) }
+    ensures reads { IfSome result (IsNoLonger text.now) }
+    ensures standalone { IfSome result
+        (λ rest. MayBeStandalone (source text.now) (source rest.now)) }
+    ensures utf8 { AnswersUtf8 result }
 {
     match split_field(text, "standalone") {
         None => Some(text),
@@ -87,7 +131,10 @@ fn after_standalone(text: &str) -> Option<&str>
 
 /// What is inside the XML declaration at the front: what follows `<?xml`, if that is the whole name.
 fn inside_declaration(text: &str) -> Option<&str>
-    ensures { IfSome result (IsShorter text.now) }
+    ensures reads { IfSome result (IsShorter text.now) }
+    ensures front { MatchOption result (OpensNone (source text.now))
+        (λ rest. source text.now ≡ codes "<?xml" ++ source rest.now) }
+    ensures utf8 { AnswersUtf8 result }
 {
     let inside = after_front(text, "<?xml")?;
     if after_name_chars(inside).len() == inside.len() {
@@ -99,7 +146,10 @@ fn inside_declaration(text: &str) -> Option<&str>
 
 /// What follows the end of the XML declaration; the text is what follows its `<?xml`.
 fn after_inside(text: &str) -> Option<&str>
-    ensures { IfSome result (IsShorter text.now) }
+    ensures reads { IfSome result (IsShorter text.now) }
+    ensures declared { IfSome result
+        (λ rest. MayDeclare (codes "<?xml" ++ source text.now) (source rest.now)) }
+    ensures utf8 { AnswersUtf8 result }
 {
     let version = split_field(text, "version")?;
     if !is_version(version.value) {
@@ -113,7 +163,9 @@ fn after_inside(text: &str) -> Option<&str>
 
 /// What follows the XML declaration at the front, where there is one (XML 1.0, production 23).
 pub(crate) fn after_declaration(text: &str) -> Result<&str, Stop>
-    ensures { MayGoPast text.now result }
+    ensures reads { MayGoPast text.now result }
+    ensures declared { IfOk result (λ rest. MayDeclare (source text.now) (source rest.now)) }
+    ensures utf8 { IfOk result (λ rest. IsUtf8 rest.now) }
 {
     let Some(inside) = inside_declaration(text) else {
         return Ok(text);
@@ -123,10 +175,15 @@ pub(crate) fn after_declaration(text: &str) -> Result<&str, Stop>
 
 /// The encoding that the text declares, if it declares one.
 pub(crate) fn declared_encoding(text: &str) -> Option<Field<'_>>
-    ensures { IfSome result (IsFieldOf text.now) }
+    ensures within { IfSome result (IsFieldOf text.now) }
+    ensures cases { MatchOption result (NamesNone text.now)
+        (λ f. IsEncName (source f.value.now) → NamesEncoding (source text.now)
+        (source f.value.now)) }
 {
-    split_field(
-        split_field(inside_declaration(text)?, "version")?.rest,
-        "encoding",
-    )
+    let version = split_field(inside_declaration(text)?, "version")?;
+    if is_version(version.value) {
+        split_field(version.rest, "encoding")
+    } else {
+        None
+    }
 }

@@ -1,9 +1,13 @@
 // The text that bytes are, in the encoding that they declare (XML 1.0 Fifth Edition, 4.3.3 and appendix F).
-ghost use Rattle.std.specs.Prelude.{◌≡◌, ◌≤◌, true, length, string_bytes, IfErr, IsTrue};
+ghost use Rattle.std.specs.Prelude.{◌≡◌, ◌≤◌, ◌++◌, ℕ, List, true, length, nat_le, string_bytes, IfErr, IfOk, IsTrue, MatchOption};
+ghost use Rattle.std.specs.Str.{chars, IsUtf8};
+ghost use Rattle.std.specs.List.{list_all};
 ghost use Rattle.rn_text.specs.Segments.{after_run};
 ghost use Rattle.rn_text.specs.Texts.{is_white};
-ghost use Rattle.rn_xml.specs.Encodings.{may_be_xml};
+ghost use Rattle.rn_xml.specs.Encodings.{may_be_xml, unmarked, IsCalled, IsDecoded};
+ghost use Rattle.rn_xml.specs.inside.Declared.{IsDeclared};
 ghost use Rattle.rn_xml.specs.inside.Undecoded.{HasPlace};
+ghost use Rattle.rn_xml.specs.inside.Units.{mark};
 
 use crate::declaration::declared_encoding;
 use crate::utf16::{ByteOrder, begins_with_tag, decode_utf16};
@@ -35,7 +39,10 @@ pub fn is_xml(bytes: &[u8]) -> bool
 }
 
 /// The encoding of this name, in any case, if it is one that is read (XML 1.0, 4.3.3).
-fn encoding_named(name: &str) -> Option<Encoding> {
+fn encoding_named(name: &str) -> Option<Encoding>
+    ensures { MatchOption result ((e : Encoding) → ¬ IsCalled e name.now)
+        (λ e. IsCalled e name.now) }
+{
     if name.eq_ignore_ascii_case("UTF-8") {
         return Some(Encoding::Utf8);
     }
@@ -52,7 +59,10 @@ fn encoding_named(name: &str) -> Option<Encoding> {
 }
 
 /// The longest front that is UTF-8.
-fn utf8_front(bytes: &[u8]) -> &str {
+fn utf8_front(bytes: &[u8]) -> &str
+    ensures front { (behind : List ℕ) × (bytes.now ≡ result.now ++ behind) }
+    ensures text { IsUtf8 result.now }
+{
     match str::from_utf8(bytes) {
         Ok(text) => text,
         Err(e) => str::from_utf8(&bytes[..e.valid_up_to()]).unwrap_or(""),
@@ -101,16 +111,16 @@ fn faulty(alloc: Global, text: &str, at: usize, kind: XmlFaultKind) -> Undecoded
 /// The encoding that the text declares, `meant` where it declares none. Refused where it is none that is read, or
 /// another than these bytes can be in.
 fn declared(alloc: Global, text: &str, meant: Encoding) -> Result<Encoding, Undecoded>
-    ensures { IfErr result HasPlace }
+    ensures encoding { IfOk result (IsDeclared text.now meant) }
+    ensures place { IfErr result HasPlace }
 {
     let Some(field) = declared_encoding(text) else {
         return Ok(meant);
     };
     let at = text.len() - field.left;
+    let in_units = meant == Encoding::Utf16;
     match encoding_named(field.value) {
-        Some(encoding) if (encoding == Encoding::Utf16) == (meant == Encoding::Utf16) => Ok(
-            encoding,
-        ),
+        Some(encoding) if (encoding == Encoding::Utf16) == in_units => Ok(encoding),
         Some(encoding) => Err(faulty(alloc, text, at, XmlFaultKind::NotEncoded(encoding))),
         None => Err(faulty(alloc, text, at, XmlFaultKind::Encoding)),
     }
@@ -123,7 +133,10 @@ fn decode_single(
     most: u8,
     encoding: Encoding,
 ) -> Result<String, Undecoded>
-    ensures { IfErr result HasPlace }
+    ensures text { IfOk result
+        (λ t. (chars (string_bytes t) ≡ bytes.now) ×
+        (list_all (λ b. nat_le b most) bytes.now ≡ true)) }
+    ensures place { IfErr result HasPlace }
 {
     let mut text = String::new(alloc);
     for b in bytes {
@@ -139,7 +152,9 @@ fn decode_single(
 
 /// The text of the bytes of UTF-8, of which this front is well-formed.
 fn decode_utf8(alloc: Global, bytes: &[u8], front: &str) -> Result<String, Undecoded>
-    ensures { IfErr result HasPlace }
+    requires { (behind : List ℕ) × (bytes.now ≡ front.now ++ behind) }
+    ensures text { IfOk result (λ t. (string_bytes t ≡ bytes.now) × (front.now ≡ bytes.now)) }
+    ensures place { IfErr result HasPlace }
 {
     if front.len() < bytes.len() {
         return Err(faulty(
@@ -154,7 +169,9 @@ fn decode_utf8(alloc: Global, bytes: &[u8], front: &str) -> Result<String, Undec
 
 /// The text of bytes that no mark of UTF-16 begins.
 fn decode_bytes(alloc: Global, bytes: &[u8]) -> Result<String, Undecoded>
-    ensures { IfErr result HasPlace }
+    ensures text { IfOk result
+        (λ t. (whole : List ℕ) → unmarked whole ≡ bytes.now → IsDecoded whole (string_bytes t)) }
+    ensures place { IfErr result HasPlace }
 {
     let front = utf8_front(bytes);
     match declared(alloc, front, Encoding::Utf8)? {
@@ -166,7 +183,8 @@ fn decode_bytes(alloc: Global, bytes: &[u8]) -> Result<String, Undecoded>
 
 /// The text of the bytes of UTF-16 behind their mark.
 fn decode_units(alloc: Global, bytes: &[u8], order: ByteOrder) -> Result<String, Undecoded>
-    ensures { IfErr result HasPlace }
+    ensures text { IfOk result (λ t. IsDecoded (mark order ++ bytes.now) (string_bytes t)) }
+    ensures place { IfErr result HasPlace }
 {
     let text = decode_utf16(alloc, bytes, order)?;
     declared(alloc, &text, Encoding::Utf16)?;
@@ -177,7 +195,8 @@ fn decode_units(alloc: Global, bytes: &[u8], order: ByteOrder) -> Result<String,
 /// where the XML declaration says so (XML 1.0, 4.3.3). Refused where the declaration names another encoding, or one that
 /// the bytes aren't in, and wherever memory is.
 pub fn decode(alloc: Global, bytes: &[u8]) -> Result<String, Undecoded>
-    ensures { IfErr result (λ u. u.fault.at ≤ length (string_bytes u.text)) }
+    ensures text { IfOk result (λ t. IsDecoded bytes.now (string_bytes t)) }
+    ensures place { IfErr result (λ u. u.fault.at ≤ length (string_bytes u.text)) }
 {
     match bytes {
         [0xFE, 0xFF, units @ ..] => decode_units(alloc, units, ByteOrder::Big),

@@ -1,4 +1,7 @@
 // Texts that are given indices, equal ones the same.
+ghost use Rattle.std.specs.Prelude.{◌≡◌, ℕ, Some, None, if◌then◌else◌, IfOk, OnOk, bytes_eq};
+ghost use Rattle.rn_text.specs.Texts.{Text};
+ghost use Rattle.rn_xml.specs.inside.KnownTexts.{index_in};
 
 use std::alloc::{AllocError, Global};
 use std::collections::BTreeMap;
@@ -11,7 +14,9 @@ pub(crate) struct Indices {
 }
 
 impl Indices {
-    pub(crate) fn new(alloc: Global) -> Indices {
+    pub(crate) fn new(alloc: Global) -> Indices
+        ensures { (q : Text) → index_in result q ≡ None }
+    {
         Indices {
             alloc,
             known: BTreeMap::new(alloc),
@@ -19,19 +24,29 @@ impl Indices {
     }
 
     /// The index of the text, if it has one.
-    pub(crate) fn find(&self, text: &str) -> Option<usize> {
+    pub(crate) fn find(&self, text: &str) -> Option<usize>
+        ensures { result ≡ index_in self.now text.now }
+    {
         self.known.get(text).copied()
     }
 
     /// Gives the text this index.
-    pub(crate) fn insert(&mut self, text: &str, index: usize) -> Result<(), AllocError> {
+    pub(crate) fn insert(&mut self, text: &str, index: usize) -> Result<(), AllocError>
+        ensures { OnOk result ((q : Text)
+            → index_in self.new q ≡
+            (if bytes_eq text.now q then Some index else index_in self.old q)) }
+    {
         self.known
             .insert(String::from_str(self.alloc, text)?, index)?;
         Ok(())
     }
 
     /// The index of the text, the next one if it has none.
-    pub(crate) fn index_of(&mut self, text: &str) -> Result<usize, AllocError> {
+    pub(crate) fn index_of(&mut self, text: &str) -> Result<usize, AllocError>
+        ensures found { IfOk result (λ index. index_in self.new text.now ≡ Some index) }
+        ensures same { OnOk result ((q : Text) (i : ℕ) → index_in self.old q ≡ Some i
+            → index_in self.new q ≡ Some i) }
+    {
         if let Some(index) = self.find(text) {
             return Ok(index);
         }

@@ -1,8 +1,12 @@
 // Comments, processing instructions, CDATA sections and characters (XML 1.0 Fifth Edition, 2.4 to 2.7).
 ghost use Rattle.std.specs.Char.{is_ascii};
 ghost use Rattle.std.specs.List.{list_all};
-ghost use Rattle.std.specs.Prelude.{◌≡◌, true, ◌<◌, ◌≤◌, length, IfOk, IfErr};
-ghost use Rattle.rn_xml.specs.inside.Rests.{GoesPast, GoesPastSome, MayGoPast, StopsWithin};
+ghost use Rattle.std.specs.Prelude.{◌≡◌, ◌≢◌, ◌∷◌, ◌++◌, ℕ, List, true, false, None, codes, ◌<◌, ◌≤◌, length, string_bytes, string_len, IfOk, IfErr, IfSome, MatchOption};
+ghost use Rattle.std.specs.Str.{chars, IsUtf8};
+ghost use Rattle.rn_text.specs.Characters.{is_ncname};
+ghost use Rattle.rn_xml.specs.XmlCharacters.{IsTarget, IsComment, IsInstruction, AreMisc, IsSection, IsCharacters, is_data_char};
+ghost use Rattle.rn_xml.specs.inside.Pieces.{Appends, IsPiece, IsUpTo, is_inner, normal};
+ghost use Rattle.rn_xml.specs.inside.Rests.{GoesPast, GoesPastSome, MayGoPast, StopsWithin, source};
 
 use crate::characters::{
     after_char, after_front, after_space, begins, is_xml_char, split_char, split_ncname,
@@ -22,8 +26,12 @@ fn after_end<'a>(
 ) -> Result<&'a str, Stop>
     requires end { 0 < length end.now }
     requires ascii { list_all is_ascii end.now ≡ true }
+    requires inner { list_all is_inner end.now ≡ true }
     requires within { length text.now < length whole.now }
-    ensures { GoesPast whole.now result }
+    ensures reads { GoesPast whole.now result }
+    ensures inside { IfOk result
+        (λ rest. (inside : List ℕ) × IsUpTo end.now (source text.now) inside (source rest.now)) }
+    ensures utf8 { IfOk result (λ rest. IsUtf8 rest.now) }
 {
     let mut rest = text;
     while let Some((c, after)) = split_char(rest) {
@@ -40,7 +48,10 @@ fn after_end<'a>(
 
 /// What follows the comment at the front, if one is there (XML 1.0, production 15).
 pub(crate) fn after_comment(text: &str) -> Result<Option<&str>, Stop>
-    ensures { GoesPastSome text.now result }
+    ensures reads { GoesPastSome text.now result }
+    ensures comment { IfOk result
+        (λ found. IfSome found (λ rest. IsComment (source text.now) (source rest.now))) }
+    ensures utf8 { IfOk result (λ found. IfSome found (λ rest. IsUtf8 rest.now)) }
 {
     let Some(inside) = after_front(text, "<!--") else {
         return Ok(None);
@@ -51,14 +62,20 @@ pub(crate) fn after_comment(text: &str) -> Result<Option<&str>, Stop>
 }
 
 /// Whether the name is one that no processing instruction has: `xml` in any case (XML 1.0, production 17).
-fn is_reserved(name: &str) -> bool {
+fn is_reserved(name: &str) -> bool
+    requires { is_ncname (chars name.now) ≡ true }
+    ensures { result ≡ false → IsTarget (chars name.now) }
+{
     name.eq_ignore_ascii_case("xml")
 }
 
 /// What follows the processing instruction at the front, if one is there (XML 1.0, productions 16 and 17; its name has no
 /// colon by Namespaces in XML 1.0, 7).
 pub(crate) fn after_instruction(text: &str) -> Result<Option<&str>, Stop>
-    ensures { GoesPastSome text.now result }
+    ensures reads { GoesPastSome text.now result }
+    ensures instruction { IfOk result
+        (λ found. IfSome found (λ rest. IsInstruction (source text.now) (source rest.now))) }
+    ensures utf8 { IfOk result (λ found. IfSome found (λ rest. IsUtf8 rest.now)) }
 {
     let Some(inside) = after_front(text, "<?") else {
         return Ok(None);
@@ -79,7 +96,9 @@ pub(crate) fn after_instruction(text: &str) -> Result<Option<&str>, Stop>
 
 /// What follows the comments, processing instructions and white space at the front (XML 1.0, production 27).
 pub(crate) fn after_misc(text: &str) -> Result<&str, Stop>
-    ensures { MayGoPast text.now result }
+    ensures reads { MayGoPast text.now result }
+    ensures misc { IfOk result (λ rest. AreMisc (source text.now) (source rest.now)) }
+    ensures utf8 { IfOk result (λ rest. IsUtf8 rest.now) }
 {
     let mut rest = after_space(text);
     while let Some(after) = after_piece(rest)? {
@@ -89,8 +108,11 @@ pub(crate) fn after_misc(text: &str) -> Result<&str, Stop>
 }
 
 /// What follows the comment or the processing instruction at the front, if one is there.
-pub(crate) fn after_piece(text: &str) -> Result<Option<&str>, Stop>
-    ensures { GoesPastSome text.now result }
+fn after_piece(text: &str) -> Result<Option<&str>, Stop>
+    ensures reads { GoesPastSome text.now result }
+    ensures piece { IfOk result
+        (λ found. IfSome found (λ rest. IsPiece (source text.now) (source rest.now))) }
+    ensures utf8 { IfOk result (λ found. IfSome found (λ rest. IsUtf8 rest.now)) }
 {
     match after_comment(text)? {
         Some(after) => Ok(Some(after)),
@@ -99,7 +121,10 @@ pub(crate) fn after_piece(text: &str) -> Result<Option<&str>, Stop>
 }
 
 /// Appends a character as a document's text has it: each line end is one line feed (XML 1.0, 2.11).
-fn push_normal(out: &mut String, c: char, after: &str) -> Result<(), AllocError> {
+fn push_normal(out: &mut String, c: char, after: &str) -> Result<(), AllocError>
+    ensures { IfOk result (λ _. chars (string_bytes out.new) ≡ chars
+        (string_bytes out.old) ++ normal c (chars after.now)) }
+{
     if c != '\r' {
         return out.push(c);
     }
@@ -111,8 +136,13 @@ fn push_normal(out: &mut String, c: char, after: &str) -> Result<(), AllocError>
 
 /// Appends the characters of the CDATA section at the front, if one is there, and answers what follows it (XML 1.0,
 /// productions 18 to 21).
-pub(crate) fn read_section<'a>(text: &'a str, out: &mut String) -> Result<Option<&'a str>, Stop>
-    ensures { GoesPastSome text.now result }
+fn read_section<'a>(text: &'a str, out: &mut String) -> Result<Option<&'a str>, Stop>
+    ensures reads { GoesPastSome text.now result }
+    ensures section { IfOk result
+        (λ found. MatchOption found (string_bytes out.new ≡ string_bytes out.old)
+        (λ rest. Appends (string_bytes out.old) (string_bytes out.new)
+        (λ inside. IsSection (source text.now) inside (source rest.now)))) }
+    ensures utf8 { IfOk result (λ found. IfSome found (λ rest. IsUtf8 rest.now)) }
 {
     let Some(inside) = after_front(text, "<![CDATA[") else {
         return Ok(None);
@@ -132,8 +162,13 @@ pub(crate) fn read_section<'a>(text: &'a str, out: &mut String) -> Result<Option
 }
 
 /// Why the first character can't stand in the text of an element, if it can't.
-fn wrong_character(c: char, after: &str) -> Option<XmlFaultKind> {
-    if c == ']' && after.starts_with("]>") {
+fn wrong_character(c: char, after: &str) -> Option<XmlFaultKind>
+    requires ampersand { c ≢ 38 }
+    requires less_than { c ≢ 60 }
+    ensures { result ≡ None → (is_data_char c ≡ true)
+        × ((behind : List ℕ) → c ∷ chars after.now ≢ codes "]]>" ++ behind) }
+{
+    if c == ']' && after_front(after, "]>").is_some() {
         return Some(XmlFaultKind::SectionEnd);
     }
     if is_xml_char(c) {
@@ -145,7 +180,12 @@ fn wrong_character(c: char, after: &str) -> Option<XmlFaultKind> {
 
 /// Appends the first character of a text, behind which `after` follows (XML 1.0, production 14).
 fn read_character(text: &str, c: char, after: &str, out: &mut String) -> Result<(), Stop>
-    ensures { IfErr result (StopsWithin text.now) }
+    requires first { chars text.now ≡ c ∷ chars after.now }
+    requires ampersand { c ≢ 38 }
+    requires less_than { c ≢ 60 }
+    ensures reads { IfErr result (StopsWithin text.now) }
+    ensures characters { IfOk result (λ _. Appends (string_bytes out.old) (string_bytes out.new)
+        (λ added. IsCharacters (source text.now) added (source after.now))) }
 {
     if let Some(kind) = wrong_character(c, after) {
         return Err(Stop::before(text, kind));
@@ -156,7 +196,10 @@ fn read_character(text: &str, c: char, after: &str, out: &mut String) -> Result<
 
 /// Appends what the reference at the front stands for, and answers what follows it.
 fn read_reference<'a>(text: &'a str, out: &mut String) -> Result<&'a str, Stop>
-    ensures { GoesPast text.now result }
+    ensures reads { GoesPast text.now result }
+    ensures characters { IfOk result (λ rest. Appends (string_bytes out.old) (string_bytes out.new)
+        (λ added. IsCharacters (source text.now) added (source rest.now))) }
+    ensures utf8 { IfOk result (λ rest. IsUtf8 rest.now) }
 {
     let (c, after) = split_reference(text)?;
     out.push(c)?;
@@ -166,7 +209,12 @@ fn read_reference<'a>(text: &'a str, out: &mut String) -> Result<&'a str, Stop>
 /// Appends the characters of what is at the front, if that is no tag, and answers what follows it: a character, a
 /// reference, a CDATA section, a comment or a processing instruction (XML 1.0, production 43).
 fn read_run<'a>(text: &'a str, out: &mut String) -> Result<Option<&'a str>, Stop>
-    ensures { GoesPastSome text.now result }
+    ensures reads { GoesPastSome text.now result }
+    ensures characters { IfOk result
+        (λ found. MatchOption found (string_bytes out.new ≡ string_bytes out.old)
+        (λ rest. Appends (string_bytes out.old) (string_bytes out.new)
+        (λ added. IsCharacters (source text.now) added (source rest.now)))) }
+    ensures utf8 { IfOk result (λ found. IfSome found (λ rest. IsUtf8 rest.now)) }
 {
     match split_char(text) {
         None => Ok(None),
@@ -185,7 +233,11 @@ fn read_run<'a>(text: &'a str, out: &mut String) -> Result<Option<&'a str>, Stop
 /// The characters before the next tag or the end, how many bytes follow the start of what the first of them is from, and
 /// what follows them all (XML 1.0, production 43).
 pub(crate) fn split_text(alloc: Global, text: &str) -> Result<(String, usize, &str), Stop>
-    ensures ok { IfOk result (λ p. (length p.2.now ≤ length text.now) × (p.1 ≤ length text.now)) }
+    ensures characters { IfOk result
+        (λ p. IsCharacters (source text.now) (chars (string_bytes p.0)) (source p.2.now)) }
+    ensures utf8 { IfOk result (λ p. IsUtf8 p.2.now) }
+    ensures left { IfOk result (λ p. (length p.2.now ≤ length text.now) × (p.1 ≤ length text.now)) }
+    ensures start { IfOk result (λ p. 0 < string_len p.0 → length p.2.now < p.1) }
     ensures err { IfErr result (StopsWithin text.now) }
 {
     let mut content = String::new(alloc);

@@ -1,8 +1,12 @@
 // A document, read from its text.
-ghost use Rattle.std.specs.Prelude.{◌≡◌, ◌⊎◌, ◌<◌, ◌≤◌, length, vec_len, IfErr, IfOk, IfSome, IsNone, OnOk};
+ghost use Rattle.std.specs.Prelude.{◌≡◌, ◌⊎◌, ◌<◌, ◌≤◌, ℕ, List, [], Some, length, vec_len, IfErr, IfOk, IfSome, IsNone, OnOk};
+ghost use Rattle.std.specs.Str.{IsUtf8, chars};
+ghost use Rattle.rn_xml.specs.DocumentTrees.{IsReadFrom};
+ghost use Rattle.rn_xml.specs.PrefixScopes.{innermost};
+ghost use Rattle.rn_xml.specs.inside.ReadDocuments.{AreOpen, IsAtTag, IsReading, IsRootRead, place_of};
 ghost use Rattle.rn_xml.specs.DocumentTables.{AreTables};
-ghost use Rattle.rn_xml.specs.inside.Rests.{StopsWithin};
-ghost use Rattle.rn_xml.specs.inside.Readers.{HasRoomFor, ReadsOn, element_count};
+ghost use Rattle.rn_xml.specs.inside.Rests.{StopsWithin, source};
+ghost use Rattle.rn_xml.specs.inside.Readers.{HasRoomFor, MayReadOn, ReadsOn, element_count};
 
 use crate::characters::after_front;
 use crate::declaration::after_declaration;
@@ -54,18 +58,39 @@ fn further(rest: &str) -> Stop
     }
 }
 
+/// Reads the text before the next tag, in an element that is open, and answers the tag and what follows it.
+fn read_text<'a>(reader: &mut TagReader<'a>, parent: usize, text: &'a str) -> Result<&'a str, Stop>
+    requires room { HasRoomFor reader.old text.now }
+    requires parent { parent < element_count reader.old }
+    ensures reads { MayReadOn reader.old text.now result }
+    ensures same { reader.new.len ≡ reader.old.len }
+    ensures elements { element_count reader.new ≡ element_count reader.old }
+    ensures document { IfOk result (λ tag. (cs : List ℕ)
+        → innermost reader.old.opened.items ≡ Some parent
+        → IsReading cs reader.old text.now → IsAtTag cs reader.new parent tag.now) }
+    ensures utf8 { IfOk result (λ tag. IsUtf8 tag.now) }
+{
+    let (content, left, tag) = split_text(reader.alloc, text)?;
+    if content.is_empty() {
+        return Ok(tag);
+    }
+    reader.add_text(parent, left, content)?;
+    Ok(tag)
+}
+
 /// Reads the text before the next tag, and that tag, in an element that is open, and answers what follows.
 fn read_piece<'a>(reader: &mut TagReader<'a>, parent: usize, text: &'a str) -> Result<&'a str, Stop>
     requires room { HasRoomFor reader.old text.now }
     requires parent { parent < element_count reader.old }
+    requires last { innermost reader.old.opened.items ≡ Some parent }
     ensures reads { ReadsOn reader.old text.now result }
     ensures same { reader.new.len ≡ reader.old.len }
     ensures more { element_count reader.old ≤ element_count reader.new }
+    ensures document { IfOk result (λ rest. (cs : List ℕ) → IsReading cs reader.old text.now
+        → IsReading cs reader.new rest.now) }
+    ensures utf8 { IfOk result (λ rest. IsUtf8 rest.now) }
 {
-    let (content, left, tag) = split_text(reader.alloc, text)?;
-    if !content.is_empty() {
-        reader.add_text(parent, left, content)?;
-    }
+    let tag = read_text(reader, parent, text)?;
     if let Some(stop) = unclosed(reader.left_of(parent), tag) {
         return Err(stop);
     }
@@ -82,6 +107,9 @@ fn read_root<'a>(reader: &mut TagReader<'a>, text: &'a str) -> Result<&'a str, S
     ensures reads { ReadsOn reader.old text.now result }
     ensures same { reader.new.len ≡ reader.old.len }
     ensures root { OnOk result (0 < element_count reader.new) }
+    ensures document { IfOk result (λ rest. AreOpen reader.old [] (place_of reader.old text.now)
+        → IsRootRead (source text.now) reader.new.tables.document (source rest.now)) }
+    ensures utf8 { IfOk result (λ rest. IsUtf8 rest.now) }
 {
     let mut rest = reader.read_start_tag(text, None)?;
     while let Some(parent) = reader.innermost() {
@@ -94,14 +122,17 @@ fn read_root<'a>(reader: &mut TagReader<'a>, text: &'a str) -> Result<&'a str, S
 fn read_whole<'a>(alloc: Global, text: &'a str) -> Result<XmlDocument<'a>, Stop>
     ensures tables { IfOk result AreTables }
     ensures root { IfOk result (λ document. 0 < vec_len document.elements) }
+    ensures document { IfOk result (IsReadFrom (chars text.now)) }
     ensures err { IfErr result (StopsWithin text.now) }
 {
-    let root = after_misc(after_declaration(text)?)?;
+    let prolog = after_declaration(text)?;
+    let root = after_misc(prolog)?;
     if let Some(stop) = no_root(root) {
         return Err(stop);
     }
     let mut reader = TagReader::new(alloc, text.len())?;
-    let rest = after_misc(read_root(&mut reader, root)?)?;
+    let behind = read_root(&mut reader, root)?;
+    let rest = after_misc(behind)?;
     if !rest.is_empty() {
         return Err(further(rest));
     }
@@ -117,6 +148,7 @@ fn read_whole<'a>(alloc: Global, text: &'a str) -> Result<XmlDocument<'a>, Stop>
 pub fn read_document<'a>(alloc: Global, text: &'a str) -> Result<XmlDocument<'a>, XmlFault>
     ensures tables { IfOk result AreTables }
     ensures root { IfOk result (λ document. 0 < vec_len document.elements) }
+    ensures document { IfOk result (IsReadFrom (chars text.now)) }
     ensures err { IfErr result (λ fault. fault.at ≤ length text.now) }
 {
     match read_whole(alloc, text) {

@@ -1,13 +1,19 @@
 // References to characters and to predefined entities (XML 1.0 Fifth Edition, 4.1 and 4.6).
-ghost use Rattle.std.specs.Prelude.{◌≤◌, IfOk};
-ghost use Rattle.rn_xml.specs.inside.Rests.{GoesOn, IsShorter};
+ghost use Rattle.std.specs.Prelude.{◌≡◌, ◌≤◌, ◌∷◌, true, IfOk, IfSome};
+ghost use Rattle.std.specs.Str.{chars, IsUtf8};
+ghost use Rattle.rn_text.specs.Characters.{is_xml_char};
+ghost use Rattle.rn_xml.specs.XmlCharacters.{IsEntity, IsReference};
+ghost use Rattle.rn_xml.specs.inside.Pieces.{IsNumber};
+ghost use Rattle.rn_xml.specs.inside.Rests.{GoesOn, IsShorter, source};
 
 use crate::characters::{after_char, after_front, is_xml_char, split_char, split_ncname};
 use crate::stop::Stop;
 use crate::xml_fault::XmlFaultKind;
 
 /// The character of a document that has this number (XML 1.0, 4.1, Legal Character).
-fn char_of(number: u32) -> Option<char> {
+fn char_of(number: u32) -> Option<char>
+    ensures { IfSome result (λ c. (c ≡ number) × (is_xml_char c ≡ true)) }
+{
     let c = char::from_u32(number)?;
     if is_xml_char(c) { Some(c) } else { None }
 }
@@ -17,7 +23,9 @@ fn char_of(number: u32) -> Option<char> {
 fn split_number(text: &str, radix: u32) -> Result<(char, &str), XmlFaultKind>
     requires two { 2 ≤ radix }
     requires digits { radix ≤ 36 }
-    ensures { IfOk result (λ p. IsShorter text.now p.1) }
+    ensures number { IfOk result (λ p. IsNumber radix (chars text.now) p.0 (chars p.1.now)) }
+    ensures utf8 { IfOk result (λ p. IsUtf8 p.1.now) }
+    ensures shorter { IfOk result (λ p. IsShorter text.now p.1) }
 {
     let mut number = 0u32;
     let mut rest = text;
@@ -36,7 +44,9 @@ fn split_number(text: &str, radix: u32) -> Result<(char, &str), XmlFaultKind>
 }
 
 /// The character of the predefined entity of this name (XML 1.0, 4.6).
-fn entity_char(name: &str) -> Option<char> {
+fn entity_char(name: &str) -> Option<char>
+    ensures { IfSome result (IsEntity (chars name.now)) }
+{
     match name.as_bytes() {
         b"amp" => Some('&'),
         b"lt" => Some('<'),
@@ -49,7 +59,9 @@ fn entity_char(name: &str) -> Option<char> {
 
 /// What a reference stands for, and what follows it; the text is what follows its `&`.
 fn split_target(text: &str) -> Result<(char, &str), XmlFaultKind>
-    ensures { IfOk result (λ p. IsShorter text.now p.1) }
+    ensures reference { IfOk result (λ p. IsReference (38 ∷ chars text.now) p.0 (chars p.1.now)) }
+    ensures utf8 { IfOk result (λ p. IsUtf8 p.1.now) }
+    ensures shorter { IfOk result (λ p. IsShorter text.now p.1) }
 {
     if let Some(number) = after_front(text, "#x") {
         return split_number(number, 16);
@@ -65,7 +77,9 @@ fn split_target(text: &str) -> Result<(char, &str), XmlFaultKind>
 
 /// The character that the reference at the front stands for, and what follows it (XML 1.0, productions 66 to 68).
 pub(crate) fn split_reference(text: &str) -> Result<(char, &str), Stop>
-    ensures { GoesOn text.now result }
+    ensures reads { GoesOn text.now result }
+    ensures reference { IfOk result (λ p. IsReference (source text.now) p.0 (source p.1.now)) }
+    ensures utf8 { IfOk result (λ p. IsUtf8 p.1.now) }
 {
     let target = after_char(text, '&').ok_or(Stop::before(text, XmlFaultKind::Reference))?;
     match split_target(target) {

@@ -1,6 +1,10 @@
 // Values of attributes (XML 1.0 Fifth Edition, production 10, 2.11 and 3.3.3).
-ghost use Rattle.std.specs.Prelude.{◌<◌, length};
-ghost use Rattle.rn_xml.specs.inside.Rests.{GoesOn};
+ghost use Rattle.std.specs.Prelude.{◌≡◌, ◌≢◌, ◌∷◌, ◌++◌, ◌==◌, ℕ, false, true, string_bytes, option_to_list, IfOk, MatchOption};
+ghost use Rattle.std.specs.Str.{chars, IsUtf8};
+ghost use Rattle.rn_text.specs.Segments.{begins_with, is_delimiter};
+ghost use Rattle.rn_xml.specs.XmlCharacters.{IsValue};
+ghost use Rattle.rn_xml.specs.inside.Pieces.{ContinuesValue};
+ghost use Rattle.rn_xml.specs.inside.Rests.{GoesOn, source};
 
 use crate::characters::{begins, is_white, is_xml_char, split_char};
 use crate::references::split_reference;
@@ -9,7 +13,10 @@ use crate::xml_fault::XmlFaultKind;
 use std::alloc::{AllocError, Global};
 
 /// The character that white space in a value is: a space, and nothing before a line feed that ends the same line (2.11).
-fn spaced(c: char, after: &str) -> Option<char> {
+fn spaced(c: char, after: &str) -> Option<char>
+    ensures { MatchOption result ((c ≡ 13) × (begins_with (λ d. d == 10) (chars after.now) ≡ true))
+        (λ s. (s ≡ 32) × (c ≡ 13 → begins_with (λ d. d == 10) (chars after.now) ≡ false)) }
+{
     if c == '\r' && begins(after, '\n') {
         None
     } else {
@@ -23,8 +30,12 @@ fn split_value_char<'a>(
     rest: &'a str,
     after: &'a str,
 ) -> Result<(Option<char>, &'a str), Stop>
-    requires { length after.now < length rest.now }
-    ensures { GoesOn rest.now result }
+    requires { chars rest.now ≡ c ∷ chars after.now }
+    ensures reads { GoesOn rest.now result }
+    ensures value { IfOk result
+        (λ p. (quote : ℕ) → c ≢ quote → ContinuesValue quote (source rest.now) p.0
+        (source p.1.now)) }
+    ensures utf8 { IfOk result (λ p. IsUtf8 p.1.now) }
 {
     if c == '&' {
         let (c, after) = split_reference(rest)?;
@@ -43,7 +54,10 @@ fn split_value_char<'a>(
 }
 
 /// Appends the character, if there is one.
-fn push_some(value: &mut String, c: Option<char>) -> Result<(), AllocError> {
+fn push_some(value: &mut String, c: Option<char>) -> Result<(), AllocError>
+    ensures { IfOk result (λ _. chars (string_bytes value.new) ≡ chars
+        (string_bytes value.old) ++ option_to_list c) }
+{
     match c {
         Some(c) => value.push(c),
         None => Ok(()),
@@ -52,7 +66,11 @@ fn push_some(value: &mut String, c: Option<char>) -> Result<(), AllocError> {
 
 /// The value up to this quote, and what follows that; the text is what follows the quote that opens it.
 pub(crate) fn split_value(alloc: Global, text: &str, quote: char) -> Result<(String, &str), Stop>
-    ensures { GoesOn text.now result }
+    requires { is_delimiter quote ≡ true }
+    ensures reads { GoesOn text.now result }
+    ensures value { IfOk result
+        (λ p. IsValue quote (source text.now) (chars (string_bytes p.0)) (source p.1.now)) }
+    ensures utf8 { IfOk result (λ p. IsUtf8 p.1.now) }
 {
     let mut value = String::new(alloc);
     let mut rest = text;

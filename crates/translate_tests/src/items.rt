@@ -1,5 +1,5 @@
 // What grammars hold, and what leaves nothing.
-use crate::rows::each_row;
+use crate::rows::{each_row, translated};
 
 const ITEMS: &str =
     r#"<start combine="choice"><ref name="a"/></start><start combine=" interleave "><ref name="b"/></start>
@@ -81,4 +81,14 @@ start = text
 #[test]
 fn annotations(rt: HostRuntime) {
     each_row(&rt, ANNOTATIONS);
+}
+
+/// A schema that begins with a name whose first character would be a byte order mark there.
+const MARKED: &str =
+    r#"<grammar xmlns="http://relaxng.org/ns/structure/1.0"><define name="&#xFEFF;1"><text/></define></grammar>"#;
+
+#[test]
+fn mark_at_the_start(rt: HostRuntime) {
+    let made = translated(&rt, MARKED).expect(&rt, "no text");
+    assert_eq!(rt; made.text.as_str(), " \u{FEFF}1 = text\n");
 }

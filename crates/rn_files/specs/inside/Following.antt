@@ -1,8 +1,10 @@
 -- What was found and read of files, and which files references lead to.
-use Rattle.std.specs.Prelude.{◌≡◌, ℕ, ◌≤◌, Bool, List, take, MatchOption, Option, Some, None, string_bytes, vec_len}
+use Rattle.std.specs.Prelude.{◌≡◌, ℕ, ◌≤◌, Bool, List, take, IfSome, OnSome, MatchOption, Option, Some, None, string_bytes, vec_len}
 use Rattle.std.specs.Borrow.{Bor}
 use Rattle.rn_files.specs.Maps.{Groups, IsLocation}
 use Rattle.rn_files.specs.ReadableFiles.{Gives, IsKept, IsReadAt, IsTextRead, Leads, Reads, with_slash}
+use Rattle.rn_xml.specs.Encodings.{IsDecoded}
+use Rattle.rn_files.specs.declared.sources.XmlSource.{XmlSource}
 use Rattle.rn_files.specs.declared.bounds.Ways.{Ways}
 use Rattle.rn_files.specs.declared.root_folder.RootFolder.{RootFolder}
 use Rattle.rn_files.specs.declared.walk.Followed.{Followed}
@@ -40,3 +42,11 @@ IsFoundAt leads maps uri path = (place : List ℕ) × (is_mapped : Bool) × IsLo
 -- the text is a front of the bytes
 abbrev pub IsFront : List ℕ → List ℕ → Type 0
 IsFront bytes text = (n : ℕ) × (text ≡ take n bytes)
+
+-- what is written in a file is the text that the bytes are
+abbrev pub IsDecodedIn : List ℕ → Option XmlSource → Type 0
+IsDecodedIn bytes written = IfSome written (λ w. IsDecoded bytes (string_bytes w.text))
+
+-- the same, if something could be made of it
+abbrev pub IsKeptIn : List ℕ → Option XmlSource → Type 0
+IsKeptIn bytes written = IfSome written (λ w. OnSome w.origins (IsDecoded bytes (string_bytes w.text)))

@@ -8,7 +8,8 @@ use Rattle.rn_text.proofs.Words.AppendedLists.{all_append, all_parts}
 use Rattle.rn_text.specs.Texts.{is_white}
 use Rattle.rn_text.specs.Characters.{is_xml_char}
 use Rattle.rn_rng.specs.Layout.{Holder, in_element, in_attribute, reference as spelled, escaped}
-use Rattle.rn_rng.specs.XmlCharacters.{IsReference, IsCharData, IsCharacters, IsValue, is_data_char, is_value_char, entity, hexadecimal, amp, lt, gt, quot}
+use Rattle.rn_xml.specs.XmlCharacters.{IsReference, entity, hexadecimal, amp, lt, gt, quot}
+use Rattle.rn_rng.specs.XmlCharacters.{IsCharData, IsCharacters, IsValue, is_data_char, is_value_char}
 use Rattle.rn_rng.specs.XmlCharacters as x
 
 -- ---- tests of all of a list

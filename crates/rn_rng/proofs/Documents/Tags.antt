@@ -13,6 +13,8 @@ use Rattle.rn_pattern.specs.Document.{Attribute}
 use Rattle.rn_assemble.specs.WritableTexts.{IsName}
 use Rattle.rn_rng.specs.Translation.{rng_uri}
 use Rattle.rn_rng.specs.Layout.{in_attribute, escaped, attributes_text, end_tag, xmlns as root_declaration}
+use Rattle.rn_xml.specs.XmlCharacters as spaces
+use Rattle.rn_xml.specs.XmlTags as tags
 use Rattle.rn_rng.specs.XmlCharacters as x
 use Rattle.rn_rng.specs.XmlTags as g
 use Rattle.rn_rng.specs.XmlTags.{Written, AreAttributes, default_inside, ordinary, xmlns, AreUnique, IsTagFront, IsEndTag}
@@ -49,7 +51,7 @@ attribute_read : (name value : List ℕ) (others rest : List ℕ) (more : List W
     → AreAttributes (((codes " " ++ (name ++ (codes "=\"" ++ (escaped in_attribute value ++ codes "\"")))) ++ others) ++ rest) (record { name = name; value = value } ∷ more) rest
 attribute_read name value others rest more is_name behind =
     subst (λ all. AreAttributes all (record { name = name; value = value } ∷ more) rest) (sym (attribute_parts name (escaped in_attribute value) others rest))
-    (g.more (x.white refl x.none) (g.attribute is_name (g.equals x.none x.none) (x.double (escaped_value value (others ++ rest)))) behind)
+    (g.more (spaces.white refl spaces.none) (g.attribute is_name (tags.equals spaces.none spaces.none) (x.double (escaped_value value (others ++ rest)))) behind)
 
 pub attributes_read : (a : List Attribute) (rest : List ℕ) → AllByRecursion IsSpellableAttribute a
     → AreAttributes (attributes_text (attributes_chars a) ++ rest) (all_written a) rest
@@ -125,7 +127,7 @@ front_read name a rest n h = record {
   opens = ap (λ all. 60 ∷ all) (append_assoc name (attributes_text (attributes_chars a)) rest);
   is_name = n;
   are_attributes = attributes_read a rest h.each;
-  space = x.none;
+  space = spaces.none;
   unique = unique_names a h.each h.distinct;
   not_xml = λ e. no_text (sym (same_default [] a h.each) ∙ e);
   not_xmlns = λ e. no_text (sym (same_default [] a h.each) ∙ e);
@@ -156,7 +158,7 @@ root_read name a rest n h = record {
   opens = ap (λ all. 60 ∷ all) (append_assoc name (attributes_text (root_declaration rng_uri ∷ attributes_chars a)) rest);
   is_name = n;
   are_attributes = attribute_read xmlns rng_uri (attributes_text (attributes_chars a)) rest (all_written a) refl (attributes_read a rest h.each);
-  space = x.none;
+  space = spaces.none;
   unique = (none_declared (root_declaration rng_uri) a h.each, unique_names a h.each h.distinct);
   not_xml = apart rng_uri (codes "http://www.w3.org/XML/1998/namespace") refl;
   not_xmlns = apart rng_uri (codes "http://www.w3.org/2000/xmlns/") refl;
@@ -167,4 +169,4 @@ end_parts name rest = ap (λ all. 60 ∷ 47 ∷ all) (append_assoc name (codes "
 
 -- an end tag, and the line feed behind it
 pub end_read : (name rest : List ℕ) → IsEndTag name (end_tag name ++ rest) (10 ∷ rest)
-end_read name rest = subst (λ all. IsEndTag name all (10 ∷ rest)) (sym (end_parts name rest)) (g.closes x.none)
+end_read name rest = subst (λ all. IsEndTag name all (10 ∷ rest)) (sym (end_parts name rest)) (g.closes spaces.none)

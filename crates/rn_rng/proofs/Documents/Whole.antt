@@ -9,8 +9,9 @@ use Rattle.rn_pattern.specs.Document.{Attribute, Item, node, Items}
 use Rattle.rn_assemble.specs.WritableTexts.{IsName}
 use Rattle.rn_rng.specs.Translation.{rng_uri}
 use Rattle.rn_rng.specs.Layout.{tag_front, end_tag, holds_text, items_text, xmlns as root_declaration, declaration_text, xml_text}
-use Rattle.rn_rng.specs.XmlCharacters as x
-use Rattle.rn_rng.specs.XmlTags as g
+use Rattle.rn_xml.specs.XmlCharacters as spaces
+use Rattle.rn_xml.specs.XmlDocuments as documents
+use Rattle.rn_xml.specs.XmlTags as tags
 use Rattle.rn_rng.specs.XmlTags.{Written, xmlns, default_inside, ordinary}
 use Rattle.rn_rng.specs.XmlDocument as d
 use Rattle.rn_rng.specs.XmlDocument.{IsElement, IsContent, IsXmlDecl, IsDocument, IsXml, without_white, without_white_in}
@@ -27,8 +28,8 @@ some_digit e = cc
 -- the declaration, and the line feed behind it
 declaration_read : (rest : List ℕ) → IsXmlDecl (declaration_text ++ rest) (10 ∷ rest)
 declaration_read rest = d.declares
-    (d.version {number = codes "1.0"} (x.white refl x.none) (g.equals x.none x.none) d.double (d.number some_digit refl))
-    (d.encoding (x.white refl x.none) (g.equals x.none x.none) d.double) x.none
+    (documents.version {number = codes "1.0"} (spaces.white refl spaces.none) (tags.equals spaces.none spaces.none) documents.double (documents.number some_digit refl))
+    (d.encoding (spaces.white refl spaces.none) (tags.equals spaces.none spaces.none) documents.double) spaces.none
 
 module _ (local : Text) (a : List Attribute) (k : Items) where
   -- the lines of what the root holds, with their white space
@@ -59,7 +60,7 @@ module _ (local : Text) (a : List Attribute) (k : Items) where
       (d.tags (root_read (chars local) a (62 ∷ 10 ∷ (items_text 1 (items_chars k) ++ (end_tag (chars local) ++ []))) n.is h) (content_read inner) (end_read (chars local) [])))
 
   document_read : IsName local → AreSpellableAttributes a → AreSpellableItems k → IsDocument (declaration_text ++ root_text) (node rng_uri local a inside)
-  document_read n h inner = d.declared (declaration_read root_text) (x.white refl x.none) (element_read n h inner) (x.white refl x.none)
+  document_read n h inner = d.declared (declaration_read root_text) (spaces.white refl spaces.none) (element_read n h inner) (spaces.white refl spaces.none)
 
   inside_stays : holds_text local ≡ false → AreSpellableItems k → without_white (node rng_uri local a inside) ≡ node rng_uri local a k
   inside_stays holds inner = ap (λ b. node rng_uri local a (without_white_in b inside)) (unheld local holds) ∙ ap (λ c. node rng_uri local a c) (items_stay k inner (10 ∷ []) 1 0 refl)

@@ -1,8 +1,14 @@
 -- What readers leave of a text.
-use Rattle.std.specs.Prelude.{◌<◌, ◌≤◌, length, Option, IfSome, Result, MatchResult}
+use Rattle.std.specs.Prelude.{ℕ, ◌<◌, ◌≤◌, List, length, Option, IfSome, Result, MatchResult}
 use Rattle.std.specs.Borrow.{Bor}
+use Rattle.std.specs.Str.{chars}
 use Rattle.rn_text.specs.Texts.{Text}
+use Rattle.rn_xml.specs.XmlCharacters.{lines_of}
 use Rattle.rn_xml.specs.declared.stop.Stop.{Stop}
+
+-- the characters of a text, as a document has them
+abbrev pub source : Text → List ℕ
+source text = lines_of (chars text)
 
 -- a place of the text where a reader stopped
 abbrev pub StopsWithin : Text → Stop → Type 0

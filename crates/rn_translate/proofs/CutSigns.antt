@@ -1,0 +1,142 @@
+-- Signs: white space, brackets and operators, as texts that are cut whatever follows.
+use Rattle.std.proofs.Common.{◌≡◌, ℕ, true, false, List, [], ◌∷◌, ◌++◌, refl, subst, ap, ◌∙◌, arith}
+use Rattle.std.specs.Prelude.{codes}
+use Rattle.std.specs.Str.{chars}
+use Rattle.rn_text.specs.declared.parts.Kind.TheVariants.{Keyword, Symbol}
+use Rattle.rn_text.specs.declared.parts.Part.TheVariants.{Space, Token}
+use Rattle.rn_text.specs.Characters.{is_keyword, is_xml_char, keywords}
+use Rattle.rn_text.specs.Parts.{ends_token, is_symbol, symbols}
+use Rattle.rn_text.specs.Texts.{Text, is_white}
+use Rattle.rn_text.specs.Tokens.{has_mark}
+use Rattle.rn_text.proofs.Cutting.BeforeBreaks.{is_solo, solo_before}
+use Rattle.rn_text.proofs.Cutting.FirstParts.{white_first}
+use Rattle.rn_translate.specs.Cuts.{Cut, HasParts, IsSign}
+use Rattle.rn_translate.proofs.CutTexts.{IsPlain, ascii, plain_characters, joined_apart, joined_closed, nothing_cut}
+use Rattle.rn_translate.proofs.CutTokens.{part_cut, token_cut}
+
+white : (c : ℕ) → is_white c ≡ true → IsPlain (c ∷ []) → Cut false (c ∷ [])
+white c w (x, a) = subst (Cut false) (ascii (c ∷ []) a) (part_cut false Space (c ∷ []) x (λ rest e. white_first c rest w))
+
+solo : (c : ℕ) → is_symbol (c ∷ []) ≡ true → is_solo c ≡ true → IsPlain (c ∷ []) → Cut false (c ∷ [])
+solo c w s (x, a) = subst (Cut false) (ascii (c ∷ []) a) (part_cut false (Token Symbol) (c ∷ []) x (λ rest e. solo_before c rest w s))
+
+space : Cut false (codes " ")
+unfolding is_xml_char
+space = white 32 refl (refl, refl)
+
+line_end : Cut false (codes "\n")
+unfolding is_xml_char
+line_end = white 10 refl (refl, refl)
+
+opening_brace : Cut false (codes "{")
+unfolding is_xml_char symbols
+opening_brace = solo 123 refl refl (refl, refl)
+
+closing_brace : Cut false (codes "}")
+unfolding is_xml_char symbols
+closing_brace = solo 125 refl refl (refl, refl)
+
+-- behind a symbol or a keyword, a space
+spaced : {x : Text} → Cut true x → Cut false (x ++ codes " ")
+unfolding is_xml_char
+spaced c = joined_apart c (codes " ") space (refl, refl) refl (omega arith)
+
+-- a symbol between spaces
+pub between_spaces : (s : List ℕ) → is_symbol s ≡ true → IsPlain s → Cut false (codes " " ++ (s ++ codes " "))
+between_spaces s is (x, a) = joined_closed space (spaced (subst (Cut true) (ascii s a) (token_cut Symbol s x is)))
+
+text_word : Cut true (codes "text")
+unfolding is_xml_char is_keyword keywords
+text_word = subst (Cut true) (ascii (codes "text") refl) (token_cut Keyword (codes "text") refl refl)
+
+-- a sign of these characters
+sign : (cs : List ℕ) → Cut false cs → IsPlain cs → ends_token cs ≡ true → has_mark cs ≡ false → IsSign cs
+sign cs c plain e m =
+    let same : chars cs ≡ cs = plain_characters cs plain in
+    record { parts = ∣ c ∣₁; apart = ap ends_token same ∙ e; unmarked = ap has_mark same ∙ m }
+
+pub nothing_sign : IsSign []
+nothing_sign = sign [] nothing_cut (refl, refl) refl refl
+
+pub space_sign : IsSign (codes " ")
+unfolding is_xml_char
+space_sign = sign (codes " ") space (refl, refl) refl refl
+
+pub line_end_sign : IsSign (codes "\n")
+unfolding is_xml_char
+line_end_sign = sign (codes "\n") line_end (refl, refl) refl refl
+
+pub comma_sign : IsSign (codes ", ")
+unfolding is_xml_char symbols
+comma_sign = sign (codes ", ") (joined_closed (solo 44 refl refl (refl, refl)) space) (refl, refl) refl refl
+
+pub ampersand_sign : IsSign (codes " & ")
+unfolding is_xml_char symbols
+ampersand_sign = sign (codes " & ") (between_spaces (codes "&") refl (refl, refl)) (refl, refl) refl refl
+
+pub bar_sign : IsSign (codes " | ")
+unfolding is_xml_char symbols
+bar_sign = sign (codes " | ") (between_spaces (codes "|") refl (refl, refl)) (refl, refl) refl refl
+
+pub minus_sign : IsSign (codes " - ")
+unfolding is_xml_char symbols
+minus_sign = sign (codes " - ") (between_spaces (codes "-") refl (refl, refl)) (refl, refl) refl refl
+
+pub equals_sign : IsSign (codes " = ")
+unfolding is_xml_char symbols
+equals_sign = sign (codes " = ") (between_spaces (codes "=") refl (refl, refl)) (refl, refl) refl refl
+
+pub choice_sign : IsSign (codes " |= ")
+unfolding is_xml_char symbols
+choice_sign = sign (codes " |= ") (between_spaces (codes "|=") refl (refl, refl)) (refl, refl) refl refl
+
+pub interleave_sign : IsSign (codes " &= ")
+unfolding is_xml_char symbols
+interleave_sign = sign (codes " &= ") (between_spaces (codes "&=") refl (refl, refl)) (refl, refl) refl refl
+
+pub parenthesis_parts : HasParts false (codes "(")
+unfolding is_xml_char symbols
+parenthesis_parts = ∣ solo 40 refl refl (refl, refl) ∣₁
+
+pub closing_sign : IsSign (codes ")")
+unfolding is_xml_char symbols
+closing_sign = sign (codes ")") (solo 41 refl refl (refl, refl)) (refl, refl) refl refl
+
+pub open_brace_sign : IsSign (codes " { ")
+unfolding is_xml_char
+open_brace_sign = sign (codes " { ") (joined_closed space (joined_closed opening_brace space)) (refl, refl) refl refl
+
+pub open_brace_line_sign : IsSign (codes " {\n")
+unfolding is_xml_char
+open_brace_line_sign = sign (codes " {\n") (joined_closed space (joined_closed opening_brace line_end)) (refl, refl) refl refl
+
+pub close_brace_sign : IsSign (codes " }")
+unfolding is_xml_char
+close_brace_sign = sign (codes " }") (joined_closed space closing_brace) (refl, refl) refl refl
+
+pub lone_brace_sign : IsSign (codes "}")
+unfolding is_xml_char
+lone_brace_sign = sign (codes "}") closing_brace (refl, refl) refl refl
+
+pub brace_line_sign : IsSign (codes "}\n")
+unfolding is_xml_char
+brace_line_sign = sign (codes "}\n") (joined_closed closing_brace line_end) (refl, refl) refl refl
+
+pub braced_text_sign : IsSign (codes " { text }")
+unfolding is_xml_char
+braced_text_sign = sign (codes " { text }") (joined_closed space (joined_closed opening_brace (joined_closed space (joined_closed (spaced text_word) closing_brace)))) (refl, refl) refl refl
+
+pub question_sign : IsSign (codes "?")
+unfolding is_xml_char symbols
+question_sign = sign (codes "?") (solo 63 refl refl (refl, refl)) (refl, refl) refl refl
+
+pub star_sign : IsSign (codes "*")
+unfolding is_xml_char symbols
+star_sign = sign (codes "*") (solo 42 refl refl (refl, refl)) (refl, refl) refl refl
+
+pub star_parts : HasParts false (codes "*")
+star_parts = star_sign.parts
+
+pub plus_sign : IsSign (codes "+")
+unfolding is_xml_char symbols
+plus_sign = sign (codes "+") (solo 43 refl refl (refl, refl)) (refl, refl) refl refl

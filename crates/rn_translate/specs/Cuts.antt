@@ -1,0 +1,36 @@
+-- Texts that are cut into tokens, whatever follows (RELAX NG Compact Syntax, 2 and appendix A).
+use Rattle.std.specs.Prelude.{◌≡◌, ℕ, Bool, true, false, if◌then◌else◌, List, [], ◌++◌, codes}
+use Rattle.std.specs.List.{list_all}
+use Rattle.std.specs.Str.{chars, encode_utf8_all}
+use Rattle.rn_text.specs.Characters.{is_xml_char}
+use Rattle.rn_text.specs.Parts.{Piece, IsCut, ends_token, text_of}
+use Rattle.rn_text.specs.Texts.{Text}
+use Rattle.rn_text.specs.Tokens.{has_mark}
+
+-- what may follow a text: behind a word, the end or a character before which each token ends; else anything
+abbrev pub may_follow : (is_open : Bool) → List ℕ → Bool
+may_follow is_open rest = if is_open then ends_token rest else true
+
+-- the pieces are the parts of the text, wherever it goes on as it may
+pub record Cut (is_open : Bool) (text : Text) : Type 0 where
+  pub pieces : List Piece
+  pub are : text ≡ encode_utf8_all (text_of pieces)
+  pub xml : list_all is_xml_char (text_of pieces) ≡ true
+  pub cut : (rest : List ℕ) → may_follow is_open rest ≡ true → IsCut (text_of pieces ++ rest) pieces rest
+
+-- the text is white space, comments and whole tokens; is_open: it may end with a word, which a further character would lengthen
+abbrev pub HasParts : (is_open : Bool) → Text → Type 0
+HasParts is_open text = ∥ Cut is_open text ∥₁
+
+-- the text may stand behind a word, and before anything; it begins with no byte order mark
+pub record IsSign (text : Text) : Type 0 where
+  pub parts : HasParts false text
+  pub apart : ends_token (chars text) ≡ true
+  pub unmarked : has_mark (chars text) ≡ false
+
+-- a space stands before a token behind a word, and before what would be a byte order mark at the start of a text
+abbrev pub needs_gap : (is_open : Bool) → (token : Text) → Bool
+needs_gap is_open token = if is_open then true else has_mark (chars token)
+
+abbrev pub gap : (is_open : Bool) → (token : Text) → Text
+gap is_open token = if needs_gap is_open token then codes " " else []
