@@ -1,5 +1,6 @@
 #!/usr/bin/env bash
-# Installs the programs below folders of its own and takes them away again; compares completions with what the programs take; runs the examples.
+# Installs the programs below folders of its own and takes them away again; compares completions with what the programs take; runs the examples;
+# compiles both programs without a proof.
 # Usage: tests/install.sh [PROGRAM]   (rnc-flat; without PROGRAM: crates/rnc_flat/out/rnc_flat)
 set -u
 
@@ -125,5 +126,19 @@ if [ "$(grep -a -c '^module \(main\|part/x\).rnc 1 ' packed.set)" -eq 2 ]; then 
 printf 'include "http://m/x.rnc"\nstart = x\n' >packed/main.rnc
 succeeds pack_folder_map "$top/examples/pack-folder" packed --map http://m/=packed/part
 if "$top/examples/pack-folder" checkout >said 2>&1; then fail pack_nothing; else pass; fi
+
+# ---- compiled without a proof: a line for each crate, and both programs
+mkdir alone && cp "$top/build" "$top/crates.txt" alone/ && ln -s "$top/bench" "$top/crates" "$top/tests" alone/
+succeeds compiled_alone alone/build --unproved
+mv said alone.said
+for crate in $(sed -n 's/^\(rnc*_[a-z]*\):.*/\1/p' "$top/crates.txt"); do
+    if grep -qE "^$crate +[0-9]+ functions compiled, [0-9]+ s$" alone.said; then pass; else fail "no line: $crate"; fi
+done
+if alone/bin/rnc-flat --version | grep -q '(not proved on this machine)$'; then pass; else fail alone_version; fi
+alone/bin/rnc-flat "$top"/examples/two/*.rnc >alone.out
+same alone_flat two.wanted alone.out
+for name in a b; do alone/bin/rnc-merge pack $name 1 "$top/examples/two/$name.rnc" >$name.set; done
+alone/bin/rnc-merge print b.set a.set >alone.out
+same alone_merge two.wanted alone.out
 
 tell

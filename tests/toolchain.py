@@ -1,7 +1,9 @@
 """What the scripts ask of the toolchain and of crates.txt, and programs that are taken while the toolchain runs them, compiled with checks and not proved."""
+import contextlib
 import glob
 import os
 import shutil
+import signal
 import subprocess
 import time
 
@@ -21,9 +23,9 @@ def compiler():
     return f"{kit()}/toolchain/bin/clang"
 
 
-def libraries():
-    """The libraries that each crate uses, in the order of crates.txt."""
-    with open(f"{TOP}/crates.txt", encoding="utf-8") as file:
+def libraries(top=TOP):
+    """The libraries that each crate of a checkout uses, in the order of crates.txt."""
+    with open(f"{top}/crates.txt", encoding="utf-8") as file:
         lines = [line.partition(":") for line in file]
     return {name: used.split() for name, _, used in lines}
 
@@ -47,6 +49,15 @@ def write_cases(folder):
             it.write(EMPTY_SET)
 
 
+def end_advice(trying):
+    """Ends the check that `rt try` runs beside the compiler for a word of advice, since that takes a processor and as much memory as the compiler."""
+    with contextlib.suppress(OSError), open(f"/proc/{trying.pid}/task/{trying.pid}/children") as children:
+        for it in children.read().split():
+            with contextlib.suppress(OSError), open(f"/proc/{it}/cmdline", "rb") as words:
+                if b"\0check\0" in words.read():
+                    os.kill(int(it), signal.SIGKILL)
+
+
 def taken(room, crate, pattern, take, start=start):
     """Has the toolchain compile and run a program of the copied crates, and meanwhile calls `take` on the files of a pattern, until one is taken. Answers
     its path, or None, and what was said."""
@@ -57,6 +68,7 @@ def taken(room, crate, pattern, take, start=start):
         how = {"cwd": f"{room}/crates/{crate}", "env": {**os.environ, "TMPDIR": own}}
         running = start(["rt", "try", "--cases", cases], stdout=said, stderr=said, **how)
         while running.poll() is None and not os.path.exists(to):
+            end_advice(running)
             for found in glob.glob(f"{own}/{pattern}", recursive=True):
                 take(found, to)
             time.sleep(0.02)
