@@ -147,7 +147,14 @@ def interleaves(twin):
     return modules
 
 
-TWINNED = (definitions, prefixes, namespaces, literals, parentheses, interleaved, names, includes, uri, libraries)
+def contexts(twin):
+    """2,000 elements, which 500 includes bring in under 500 namespaces; under one in the twin. Of each 500 are joined to one name."""
+    declared = [f'namespace p{i} = "u{i}"' for i in range(500)]
+    included = [f'include "a" inherit = p{0 if twin else i}' for i in range(500)]
+    return {"a": "\n".join(f"n{i:04d} |= element e{{empty}}" for i in range(2000)), "driver": "\n".join([*declared, "start = n0000", *included])}
+
+
+TWINNED = (definitions, prefixes, namespaces, literals, parentheses, interleaved, names, includes, uri, libraries, contexts)
 SHAPES = {shape.__name__: shape for shape in (*TWINNED, components, instances, interleaves)}
 MEMORY = 8 << 30
 

@@ -1,24 +1,24 @@
--- Includes expanded: components put in, overridden, and what an include lacks.
+-- Includes followed: the segments that they bring in, what they override, and what an include lacks.
 pub mod CountedInstances
 pub mod ModulePlaces
-pub mod GatheredItems
-pub mod LiveLists
-pub mod Expansions
+pub mod Ranges
+pub mod IncludeOrder
+pub mod LeftSegments
+pub mod SegmentPlaces
+pub mod EmptyPlaces
+pub mod BroughtSegments
 pub mod Spliced
-pub mod Overriding
 pub mod ModuleLookups
 pub mod ModuleExpansion
+pub mod RootSegments
 pub mod SameKeys
+pub mod SameNamespaces
 pub mod Rooted
 pub mod Lacking
-pub mod NotedLacks
 pub mod IncludedLacks
-pub mod OwnLacks
 pub mod LongerPaths
 pub mod Inclusions
 pub mod RootNumbers
 pub mod WantedNumbers
 pub mod FirstIncludes
 pub mod EntryMarks
-pub mod RunNumbers
-pub mod CountedBodies

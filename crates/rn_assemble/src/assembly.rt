@@ -1,38 +1,34 @@
 // From a set of modules to its grammar, or to the first refusal that stands (RELAX NG 2001, 4.7, 4.11, 4.16 to 4.19).
-ghost use Rattle.std.specs.Prelude.{◌+◌, ◌<◌, ◌∷◌, List, MatchResult, length, nat_eq};
-ghost use Rattle.std.specs.List.{AllByRecursion, IsDistinct};
-ghost use Rattle.rn_text.specs.Texts.{Text};
-ghost use Rattle.rn_assemble.specs.inside.Checked.{AreExpanded, IsGrammarOf, IsLacking, IsFirstOfModules, KeepsWellFormed};
+ghost use Rattle.std.specs.Prelude.{List, MatchResult};
+ghost use Rattle.std.specs.List.{AllByRecursion};
+ghost use Rattle.rn_assemble.specs.inside.Checked.{AreExpanded, IsGrammarOf, IsFirstOfModules, KeepsWellFormed};
 ghost use Rattle.rn_assemble.specs.Components as specs;
 ghost use Rattle.rn_assemble.specs.inside.Contained.{AreFlat};
 ghost use Rattle.rn_assemble.specs.GrammarView.{grammar_view};
-ghost use Rattle.rn_assemble.specs.inside.Lacking.{IsLeastLack};
-ghost use Rattle.rn_assemble.specs.inside.Methods.{CanCombine, IsUncombined};
-ghost use Rattle.rn_assemble.specs.Refusal.{IsAssembled, Lacks};
+ghost use Rattle.rn_assemble.specs.Refusal.{IsAssembled};
 ghost use Rattle.rn_assemble.specs.Refused.{IsFirstRefusal};
 ghost use Rattle.rn_assemble.specs.ShortTexts.{IsShortened, short_texts};
+ghost use Rattle.rn_assemble.specs.inside.Pieces.{AreKnownBy, OfKeys};
 ghost use Rattle.rn_assemble.specs.inside.ReferenceOrder.{AreDefinedKeys, IsReferenceOrder};
 ghost use Rattle.rn_assemble.specs.inside.Sound.{HasSoundReferences, IsUnsound};
-ghost use Rattle.rn_assemble.specs.inside.Trees.{trees_by};
 ghost use Rattle.rn_assemble.specs.inside.Views.{AreInOrder, AreNamed, modules_view, names_of};
-ghost use Rattle.rn_assemble.specs.inside.Listed.{OfKeys, OfTrees};
 
-use crate::components::{Components, Lack};
+use crate::checks::{check_methods, check_overrides};
+use crate::combining::joined_grammar;
 use crate::constants::Constants;
 use crate::contents::contents_of;
-use crate::definitions::joined_grammar;
-use crate::expanding::components_of;
 use crate::grammar::Grammar;
 use crate::inclusion::included_roots;
-use crate::keys::{Keys, START};
+use crate::key_rows::KeyRows;
+use crate::keys::Keys;
 use crate::named_modules::{NamedModule, read_modules, split_items};
 use crate::references::references_of;
 use crate::refusal::Refusal;
 use crate::seeds::seed_of;
+use crate::segments::Segments;
 use crate::settling_order::{KeyOrder, defined_keys, key_order, settling_order};
 use crate::short_uris::ShortUris;
 use crate::shortening::{short_uris_of, shorten_modules};
-use crate::trees::Trees;
 use rn_modset::ModuleSet;
 use rn_pattern::Seed;
 use std::alloc::Global;
@@ -94,22 +90,9 @@ fn join_modules(
     let keys = Keys::new(alloc, modules.as_slice(), seed)?;
     let constants = Constants::new(alloc)?;
     let (modules, items) = split_items(alloc, modules)?;
-    let (contents, mut trees) = contents_of(alloc, modules.as_slice(), items, &keys, &constants)?;
-    let components = components_of(
-        alloc,
-        contents.as_slice(),
-        &constants,
-        roots.as_slice(),
-        keys.len(),
-    )?;
-    join_keys(
-        alloc,
-        modules.as_slice(),
-        &keys,
-        &components,
-        &mut trees,
-        seed,
-    )
+    let (contents, rows) = contents_of(alloc, modules.as_slice(), items, &keys, &constants)?;
+    let segments = Segments::of_roots(alloc, contents.as_slice(), &constants, roots.as_slice())?;
+    join_keys(alloc, modules.as_slice(), &keys, rows, &segments, seed)
 }
 
 /// The grammar to which the modules' components are joined, or the first refusal that is true of them. The modules may
@@ -118,91 +101,43 @@ fn join_keys<'s>(
     alloc: Global,
     modules: &[NamedModule<'_>],
     keys: &Keys<'s>,
-    components: &Components<'_, '_, 's>,
-    trees: &mut Trees<'s>,
+    rows: KeyRows<'s>,
+    segments: &Segments<'_, '_, '_>,
     seed: &Seed,
 ) -> Result<Grammar, Refusal>
-    requires { (ms : List specs.NamedModule) × AreNamed ms modules.now × KeepsWellFormed ms
-        × AreExpanded ms (names_of keys.now) (trees_by trees.old.trees.items) components.now }
+    requires modules_in_order { AreInOrder modules.now }
+    requires known { (ms : List specs.NamedModule) × AreNamed ms modules.now × KeepsWellFormed ms
+        × AreExpanded ms (names_of keys.now) rows segments.now }
     ensures { (ms : List specs.NamedModule) → AreNamed ms modules.now
-        → AreExpanded ms (names_of keys.now) (trees_by trees.old.trees.items) components.now
+        → AreExpanded ms (names_of keys.now) rows.entry segments.now
         → MatchResult result (λ g. IsGrammarOf ms (grammar_view g)) (IsFirstOfModules ms) }
 {
-    check_overrides(alloc, modules, keys, components.lack)?;
-    check_methods(alloc, keys, components)?;
-    let defined = defined_keys(alloc, components)?;
-    let reached = check_references(alloc, keys, components, trees, &defined)?;
+    check_overrides(alloc, modules, keys, &rows, segments)?;
+    check_methods(alloc, keys, &rows, segments)?;
+    let defined = defined_keys(alloc, &rows, segments)?;
+    let reached = check_references(alloc, keys, &rows, segments, &defined)?;
     let order = settling_order(alloc, keys, &defined, &reached)?;
-    joined_grammar(alloc, keys, components, trees, &defined, order, seed)
-}
-
-/// `Override`, where there is a lack: an include of a module defines what the included module lacks (RELAX NG 2001,
-/// 4.7).
-fn check_overrides(
-    alloc: Global,
-    modules: &[NamedModule<'_>],
-    keys: &Keys<'_>,
-    lack: Option<Lack>,
-) -> Result<(), Refusal>
-    requires { (ms : List specs.NamedModule) × AreNamed ms modules.now
-        × IsLeastLack ms (names_of keys.now) (Lacks ms) lack }
-    ensures { (ms : List specs.NamedModule) → AreNamed ms modules.now
-        → IsLeastLack ms (names_of keys.now) (Lacks ms) lack
-        → MatchResult result (λ _. (y : Text) (k : specs.Key) → ¬ Lacks ms y k) (IsLacking ms) }
-{
-    match lack {
-        None => Ok(()),
-        Some(lack) => Err(Refusal::Override {
-            module: String::from_str(alloc, modules[lack.module].name)?,
-            key: keys.key(alloc, lack.key)?,
-        }),
-    }
-}
-
-/// Refuses the least key with two plain components, the least with both methods, and components without a start
-/// (RELAX NG 2001, 4.17 and 4.18).
-fn check_methods(
-    alloc: Global,
-    keys: &Keys<'_>,
-    components: &Components<'_, '_, '_>,
-) -> Result<(), Refusal>
-    ensures { OfKeys keys.now components.now
-        (λ names cs. MatchResult result (λ _. CanCombine cs) (IsUncombined cs)) }
-{
-    if let Some(key) = components.least_plain_twice(keys.len()) {
-        return Err(Refusal::PlainTwice {
-            key: keys.key(alloc, key)?,
-        });
-    }
-    if let Some(key) = components.least_mixed(keys.len()) {
-        return Err(Refusal::MixedMethods {
-            key: keys.key(alloc, key)?,
-        });
-    }
-    if components.count_of(START) == 0 {
-        return Err(Refusal::NoStart);
-    }
-    Ok(())
+    joined_grammar(alloc, keys, rows, segments, &defined, order, seed)
 }
 
 /// The keys of definitions that the start reaches, each after those that it refers to outside elements; `defined` are
-/// those of all definitions. Or the refusal of names that aren't defined, or of reachable ones that come back to
-/// themselves outside elements (RELAX NG 2001, 4.18 and 4.19).
+/// those of all definitions. Or the refusal of
+/// names that aren't defined, or of reachable ones that come back to themselves outside elements (RELAX NG 2001, 4.18
+/// and 4.19).
 fn check_references<'s>(
     alloc: Global,
     keys: &Keys<'s>,
-    components: &Components<'_, '_, 's>,
-    trees: &Trees<'s>,
+    rows: &KeyRows<'s>,
+    segments: &Segments<'_, '_, '_>,
     defined: &[usize],
 ) -> Result<Vec<usize>, Refusal>
-    requires once { IsDistinct nat_eq (0 ∷ defined.now) }
-    requires within { AllByRecursion (λ k. k < length (names_of keys.now) + 1) defined.now }
-    ensures { OfTrees keys.now (trees_by trees.now.trees.items) components.now
+    requires { AreKnownBy (names_of keys.now) rows.now segments.now }
+    ensures { OfKeys keys.now rows.now segments.now
         (λ names cs. AreDefinedKeys names cs defined.now
         → MatchResult result (λ order. HasSoundReferences cs
         × IsReferenceOrder names cs order.items) (IsUnsound cs)) }
 {
-    let references = references_of(alloc, keys, components, trees, defined)?;
+    let references = references_of(alloc, keys, rows, segments, defined)?;
     match key_order(alloc, &references)? {
         KeyOrder::Ordered(order) => Ok(order),
         KeyOrder::Recursive(key) => Err(Refusal::Recursive {

@@ -1,417 +1,362 @@
-// Definitions of one key combined (RELAX NG 2001, 4.17).
-ghost use Rattle.std.specs.Prelude.{◌≡◌, ◌+◌, ◌<◌, List, None, length, map, slice_get, IfOk, IfSome, IsSomeAnd, MatchOption, MatchResult, ⊤};
-ghost use Rattle.rn_pattern.specs.Graph.{row};
-ghost use Rattle.rn_text.specs.Texts.{Text};
-ghost use Rattle.rn_pattern.specs.View.{pattern_view, shared_view, shared_trees};
-ghost use Rattle.rn_syntax.specs.Tree.{empty};
+// The components of each key resolved and joined (RELAX NG 2001, 4.8 to 4.15 and 4.17).
+ghost use Rattle.std.specs.Prelude.{◌≡◌, ◌+◌, ◌≤◌, ◌∷◌, ◌++◌, [], true, false, List, IfOk, MatchResult, OnOk, Some, bytes_eq, length, map, take, drop};
+ghost use Rattle.std.specs.List.{AllByRecursion, list_any};
+ghost use Rattle.std.specs.List.Sorted.{IsStrictlySortedBy};
+ghost use Rattle.rn_text.specs.Texts.{Text, text_cmp};
+ghost use Rattle.rn_syntax.specs.View.{boxed_view};
+ghost use Rattle.rn_pattern.specs.Tree.{Tree};
+ghost use Rattle.rn_pattern.specs.View.{pattern_view, shared_view};
 ghost use Rattle.rn_assemble.specs.Combine as spec;
-ghost use Rattle.rn_assemble.specs.inside.Keyed.{key_at};
-ghost use Rattle.rn_assemble.specs.inside.Patterns.{AreShared, AreSharedBy, AreWellNamed, IsKeptOrNoted, IsKeptPattern, IsMisnamedAs, IsMisnamedAt, IsMisnamedBy, IsWellNamed, MayHold, WithShared, lesser};
-ghost use Rattle.rn_assemble.specs.inside.Views.{names_of};
-ghost use Rattle.rn_assemble.specs.inside.Tied.{body_of};
-ghost use Rattle.rn_assemble.specs.inside.ContextBindings.{InContext};
-ghost use Rattle.rn_assemble.specs.inside.Listed.{AreGivenUp, AreGivenUpTo, AreGoneTo, AtKey, OfBody, WithBody};
-ghost use Rattle.rn_assemble.specs.inside.Trees.{AgreeAt, AgreeElsewhere, StillGone, TreeView, trees_by};
+ghost use Rattle.rn_assemble.specs.Components as specs;
+ghost use Rattle.rn_assemble.specs.DefinitionsView.{definitions_view};
+ghost use Rattle.rn_assemble.specs.Refusal.{BreaksNameRules};
 ghost use Rattle.rn_assemble.specs.Resolve.{resolved_pattern};
+ghost use Rattle.rn_assemble.specs.inside.ContextBindings.{InContext};
+ghost use Rattle.rn_assemble.specs.inside.JoinedDefinitions.{AreDefinitions};
+ghost use Rattle.rn_assemble.specs.inside.Joining.{CanBeJoined, IsJoinedGrammar, IsMisnamed};
+ghost use Rattle.rn_assemble.specs.inside.Patterns.{AddsResolved, AreResolved, IsJoined, IsJoinedTo, IsResolved, lesser, numbers_from};
+ghost use Rattle.rn_assemble.specs.inside.Pieces.{IsKnownRow, IsOnlyComponent, IsPiece, OfKeys, OfPieces, OfRow};
+ghost use Rattle.rn_assemble.specs.inside.ReferenceOrder.{AreDefinedKeys};
+ghost use Rattle.rn_assemble.specs.inside.Rows.{AreNameRows, AreRows};
+ghost use Rattle.rn_assemble.specs.inside.Segments.{AreSegmentsOf};
+ghost use Rattle.rn_assemble.specs.inside.Tied.{AreTied};
+ghost use Rattle.rn_assemble.specs.inside.Views.{names_of};
 
-use crate::bodies::Body;
-use crate::components::{Components, Near};
-use crate::keys::Keys;
+use crate::checks::uses;
+use crate::context::Context;
+use crate::grammar::{Definitions, Grammar};
+use crate::key_rows::{KeyRows, WrittenComponent};
+use crate::keys::{Keys, START};
 use crate::nodes::{choice, interleave, share_pattern};
+use crate::pieces::Piece;
 use crate::refusal::Refusal;
 use crate::resolution::resolve_pattern;
-use crate::trees::Trees;
-use rn_pattern::Pattern;
+use crate::segments::Segments;
+use indexmap::IndexMap;
 use rn_pattern::name_classes::keeps_name_rules;
+use rn_pattern::{Pattern, Seed};
 use rn_syntax::Method;
 use std::alloc::{AllocError, Global};
 use std::rc::Rc;
 
-/// The patterns of bodies that stand in lists of several components, once they were resolved.
-type Shared = Vec<Option<Rc<Pattern>>>;
-
-/// Keys combined so far, one after the other in any order.
+/// The pattern to which the components of a key are joined.
 #[derive(Drop)]
-pub(crate) struct Combining {
-    shared: Shared,
-    /// What was read last.
-    near: Near,
-    /// The least key that was noted, since one of its components breaks the restrictions on name classes.
-    least: Option<usize>,
+struct Joined {
+    pattern: Pattern,
+    /// For each member of the list, the index of the first one that is the same component in the same context. Empty
+    /// where no component stands twice, and where an index takes more than 32 bits.
+    firsts: Vec<u32>,
 }
 
-impl Combining {
-    /// Nothing is combined yet.
-    pub fn new(alloc: Global, components: &Components<'_, '_, '_>) -> Result<Combining, AllocError>
-        ensures shared { (names : List Text) (trees : TreeView) → IfOk result (λ combining.
-            AreShared names trees components.now.bodies combining.shared.items) }
-        ensures least { IfOk result (λ combining. combining.least ≡ None) }
-    {
-        Ok(Combining {
-            shared: nothing_shared(alloc, components)?,
-            near: Near::default(),
-            least: None,
-        })
-    }
-
-    /// The pattern of a key's components combined, `None` for a key that has none. `NameClass` names the key where one
-    /// of them breaks the restrictions on name classes. Their trees are dropped.
-    #[inline(always)]
-    pub fn combine(
-        &mut self,
-        alloc: Global,
-        keys: &Keys<'_>,
-        components: &Components<'_, '_, '_>,
-        trees: &mut Trees<'_>,
-        key: usize,
-    ) -> Result<Option<Pattern>, Refusal>
-        ensures size { length self.new.shared.items ≡ length self.old.shared.items }
-        ensures least { self.new.least ≡ self.old.least }
-        ensures others { AgreeElsewhere (trees_by trees.new.trees.items)
-            (trees_by trees.old.trees.items) key }
-        ensures gone { AreGivenUp components.now (trees_by trees.new.trees.items) key }
-        ensures kept { WithShared keys.now (trees_by trees.old.trees.items) components.now
-            self.old.shared.items key
-            (λ view names cs. AreSharedBy keys.now view components.now self.new.shared.items) }
-        ensures exact { WithShared keys.now (trees_by trees.old.trees.items) components.now
-            self.old.shared.items key (λ view names cs. MatchResult result
-            (IsKeptPattern cs (key_at names key)) (IsMisnamedAt cs (key_at names key))) }
-    {
-        let count = components.count_of(key);
-        if count == 0 {
-            return Ok(None);
-        }
-        if count == 1 {
-            return combine_one(alloc, keys, components, trees, key, &mut self.near);
-        }
-        let pattern = combine_several(
-            alloc,
-            keys,
-            components,
-            trees,
-            &mut self.shared,
-            key,
-            &mut self.near,
-        );
-        give_up_trees(components, trees, key, &mut self.near);
-        pattern
-    }
-
-    /// The pattern of a key's components combined, as [`Combining::combine`] answers it; but a key one of whose
-    /// components breaks the restrictions on name classes has none and is noted, since a lesser one may come.
-    #[inline(always)]
-    pub fn combine_or_note(
-        &mut self,
-        alloc: Global,
-        keys: &Keys<'_>,
-        components: &Components<'_, '_, '_>,
-        trees: &mut Trees<'_>,
-        key: usize,
-    ) -> Result<Option<Pattern>, AllocError>
-        ensures size { length self.new.shared.items ≡ length self.old.shared.items }
-        ensures others { AgreeElsewhere (trees_by trees.new.trees.items)
-            (trees_by trees.old.trees.items) key }
-        ensures gone { AreGivenUp components.now (trees_by trees.new.trees.items) key }
-        ensures kept { WithShared keys.now (trees_by trees.old.trees.items) components.now
-            self.old.shared.items key
-            (λ view names cs. AreSharedBy keys.now view components.now self.new.shared.items) }
-        ensures exact { WithShared keys.now (trees_by trees.old.trees.items) components.now
-            self.old.shared.items key (λ view names cs. IfOk result
-            (IsKeptOrNoted names cs key self.old.least self.new.least)) }
-    {
-        match self.combine(alloc, keys, components, trees, key) {
-            Ok(pattern) => Ok(pattern),
-            Err(Refusal::NameClass { .. }) => {
-                self.note(key);
-                Ok(None)
-            }
-            Err(_) => Err(AllocError),
-        }
-    }
-
-    /// Notes a key, if no lesser one is noted.
-    fn note(&mut self, key: usize)
-        ensures shared { self.new.shared ≡ self.old.shared }
-        ensures least { self.new.least ≡ lesser key self.old.least }
-    {
-        match self.least {
-            Some(least) if least <= key => {}
-            _ => self.least = Some(key),
-        }
-    }
-
-    /// The refusal that names the least noted key; none where no key is noted.
-    pub fn refusal(&self, alloc: Global, keys: &Keys<'_>) -> Option<Refusal>
-        ensures { MatchOption result (self.now.least ≡ None) (λ q. IsSomeAnd self.now.least (λ key.
-            key < length (names_of keys.now) + 1
-            → IsMisnamedAs (key_at (names_of keys.now) key) ⊤ q)) }
-    {
-        match keys.key(alloc, self.least?) {
-            Ok(key) => Some(Refusal::NameClass { key }),
-            Err(_) => Some(Refusal::Memory),
-        }
-    }
-}
-
-/// Nothing is resolved yet: an entry for each body, or none where no body can stand twice.
-fn nothing_shared(alloc: Global, components: &Components<'_, '_, '_>) -> Result<Shared, AllocError>
-    ensures { (names : List Text) (trees : TreeView) → IfOk result (λ shared.
-        AreShared names trees components.now.bodies shared.items) }
+/// The grammar to which the components of all keys are joined, its definitions in the order of `defined`. The components
+/// of each key are dropped once they were resolved. The order in which the definitions can be settled is given, and the
+/// seed by which their names are hashed.
+pub(crate) fn joined_grammar(
+    alloc: Global,
+    keys: &Keys<'_>,
+    rows: KeyRows<'_>,
+    segments: &Segments<'_, '_, '_>,
+    defined: &[usize],
+    order: Vec<usize>,
+    seed: &Seed,
+) -> Result<Grammar, Refusal>
+    requires { (ms : List specs.NamedModule) × (cs : List specs.Component)
+        × IsStrictlySortedBy text_cmp (names_of keys.now)
+        × AreRows ms (names_of keys.now) rows.rows.items × AreSegmentsOf ms segments.now cs
+        × CanBeJoined (names_of keys.now) cs defined.now order.items }
+    ensures { OfKeys keys.now rows.entry segments.now
+        (λ names cs. AreDefinedKeys names cs defined.now → specs.has_key specs.start_key cs ≡ true
+        → MatchResult result (IsJoinedGrammar cs) (IsMisnamed cs)) }
 {
-    if components.may_repeat_bodies() {
-        Ok(vec![in alloc; None; components.count_bodies()]?)
+    let mut rows = rows;
+    let row = rows.take(alloc, START);
+    let Some(start) = join_key(alloc, row.as_slice(), segments)? else {
+        return Err(Refusal::NameClass {
+            key: keys.key(alloc, START)?,
+        });
+    };
+    drop(row);
+    let (defs, firsts) = definitions(alloc, keys, &mut rows, segments, defined, seed)?;
+    Ok(Grammar {
+        start: start.pattern,
+        defs,
+        start_firsts: start.firsts,
+        firsts,
+        order,
+    })
+}
+
+/// The definitions of the names with these keys, in their order, and the first members of each. `NameClass` names the
+/// least one that breaks the restrictions on name classes, whichever came first.
+fn definitions(
+    alloc: Global,
+    keys: &Keys<'_>,
+    rows: &mut KeyRows<'_>,
+    segments: &Segments<'_, '_, '_>,
+    defined: &[usize],
+    seed: &Seed,
+) -> Result<(Definitions, Vec<Vec<u32>>), Refusal>
+    requires { (ms : List specs.NamedModule) × (cs : List specs.Component)
+        × IsStrictlySortedBy text_cmp (names_of keys.now)
+        × AreNameRows ms (names_of keys.now) rows.old.rows.items × AreSegmentsOf ms segments.now cs
+        × AreDefinedKeys (names_of keys.now) cs defined.now }
+    ensures { (ms : List specs.NamedModule) (cs : List specs.Component)
+        → IsStrictlySortedBy text_cmp (names_of keys.now)
+        → AreNameRows ms (names_of keys.now) rows.old.rows.items → AreSegmentsOf ms segments.now cs
+        → AreDefinedKeys (names_of keys.now) cs defined.now
+        → ¬ BreaksNameRules cs specs.start_key → MatchResult result
+        (λ made. AreDefinitions cs made.0.entries made.1.items) (IsMisnamed cs) }
+{
+    let mut defs = IndexMap::with_capacity_and_hasher(alloc, defined.len(), *seed)?;
+    let mut firsts = Vec::with_capacity(alloc, defined.len())?;
+    let mut least = None;
+    for key in defined {
+        let row = rows.take(alloc, *key);
+        match join_key(alloc, row.as_slice(), segments)? {
+            Some(joined) => {
+                let Joined {
+                    pattern,
+                    firsts: found,
+                } = joined;
+                firsts.push(found)?;
+                define(alloc, &mut defs, keys.name(*key), pattern)?;
+            }
+            None => least = Some(lesser(least, *key)),
+        }
+    }
+    match least {
+        Some(key) => Err(Refusal::NameClass {
+            key: keys.key(alloc, key)?,
+        }),
+        None => Ok((defs, firsts)),
+    }
+}
+
+/// The lesser of a key and the one that there may be.
+fn lesser(held: Option<usize>, other: usize) -> usize
+    ensures { Some result ≡ lesser other held }
+{
+    match held {
+        Some(held) if held <= other => held,
+        _ => other,
+    }
+}
+
+/// Adds the definition of a name, behind those of others.
+fn define(
+    alloc: Global,
+    defs: &mut Definitions,
+    name: &str,
+    body: Pattern,
+) -> Result<(), AllocError>
+    ensures { OnOk result (list_any (bytes_eq name.now)
+        (map (λ (d : Text × Tree). d.0) (definitions_view defs.old.entries)) ≡ false
+        → definitions_view defs.new.entries ≡ definitions_view defs.old.entries
+        ++ (name.now, pattern_view body) ∷ []) }
+{
+    let name = String::from_str(alloc, name)?;
+    defs.insert(name, body)?;
+    Ok(())
+}
+
+/// What the components of a key are joined to; none where one of them breaks the restrictions on name classes. `row` has
+/// the components that modules define under the key.
+fn join_key(
+    alloc: Global,
+    row: &[WrittenComponent<'_>],
+    segments: &Segments<'_, '_, '_>,
+) -> Result<Option<Joined>, AllocError>
+    requires { IsKnownRow row.now segments.now }
+    ensures { OfRow row.now segments.now (λ modules k cs. IfOk result (IsJoined cs k)) }
+{
+    let mut pieces = Vec::new(alloc);
+    segments.live_pieces(row, &mut pieces)?;
+    if let Some(piece) = only_component(&pieces) {
+        let context = segments.list[piece.segment].context;
+        return join_one(alloc, context, &row[piece.from]);
+    }
+    let Some(members) = members_of(alloc, row, segments, &pieces)? else {
+        return Ok(None);
+    };
+    let firsts = firsts_of(alloc, row, segments, &pieces)?;
+    let pattern = if uses(Method::Interleave, row, &pieces) {
+        interleave(members)
+    } else {
+        choice(members)
+    };
+    Ok(Some(Joined { pattern, firsts }))
+}
+
+/// The piece that has the only component of these pieces, if there is but one.
+fn only_component(pieces: &[Piece]) -> Option<Piece>
+    ensures { IsOnlyComponent pieces.now result }
+{
+    if pieces.len() != 1 {
+        return None;
+    }
+    let piece = pieces[0];
+    if piece.to.saturating_sub(piece.from) == 1 {
+        Some(piece)
+    } else {
+        None
+    }
+}
+
+/// The pattern of the only component of a key.
+fn join_one(
+    alloc: Global,
+    context: Context<'_, '_>,
+    component: &WrittenComponent<'_>,
+) -> Result<Option<Joined>, AllocError>
+    ensures { InContext context.entry (λ inherited ds. IfOk result
+        (IsJoinedTo (resolved_pattern inherited ds (boxed_view component.now.body)))) }
+{
+    match resolve(alloc, context, component)? {
+        Some(pattern) => Ok(Some(Joined {
+            pattern,
+            firsts: Vec::new(alloc),
+        })),
+        None => Ok(None),
+    }
+}
+
+/// A component's pattern with its names resolved; none where it breaks the restrictions on name classes.
+fn resolve(
+    alloc: Global,
+    context: Context<'_, '_>,
+    component: &WrittenComponent<'_>,
+) -> Result<Option<Pattern>, AllocError>
+    ensures { InContext context.entry (λ inherited ds. IfOk result
+        (IsResolved (resolved_pattern inherited ds (boxed_view component.now.body)))) }
+{
+    let pattern = resolve_pattern(alloc, context, &component.body)?;
+    if keeps_name_rules(&pattern) {
+        Ok(Some(pattern))
+    } else {
+        Ok(None)
+    }
+}
+
+/// The patterns of the components of these pieces, in their order. Each component is resolved once in each context.
+fn members_of(
+    alloc: Global,
+    row: &[WrittenComponent<'_>],
+    segments: &Segments<'_, '_, '_>,
+    pieces: &[Piece],
+) -> Result<Option<Vec<Rc<Pattern>>>, AllocError>
+    requires known { IsKnownRow row.now segments.now }
+    requires pieces { AllByRecursion (IsPiece segments.now.list.items row.now) pieces.now }
+    ensures { OfPieces row.now segments.now pieces.now (λ modules k cs. IfOk result
+        (AreResolved (spec.bodies k cs))) }
+{
+    let mut begins = vec![in alloc; None; segments.list.len()]?;
+    let mut members = Vec::with_capacity(alloc, count_of(pieces))?;
+    for piece in pieces {
+        let segment = segments.list[piece.segment];
+        let components = &row[piece.from..piece.to];
+        match begins[segment.first] {
+            Some(begin) => repeat(&mut members, begin, components.len())?,
+            None => {
+                begins[segment.first] = Some(members.len());
+                if !push_resolved(alloc, segment.context, components, &mut members)? {
+                    return Ok(None);
+                }
+            }
+        }
+    }
+    Ok(Some(members))
+}
+
+/// How many components these pieces have, or a lesser number.
+fn count_of(pieces: &[Piece]) -> usize {
+    let mut count = 0usize;
+    for piece in pieces {
+        count = count.saturating_add(piece.to.saturating_sub(piece.from));
+    }
+    count
+}
+
+/// Adds so many members from an index on once more.
+fn repeat(members: &mut Vec<Rc<Pattern>>, begin: usize, count: usize) -> Result<(), AllocError>
+    requires { begin + count ≤ length members.old.items }
+    ensures { IfOk result (λ _. map shared_view members.new.items
+        ≡ map shared_view members.old.items
+        ++ take count (drop begin (map shared_view members.old.items))) }
+{
+    for index in begin..begin + count {
+        let member = members[index].clone()?;
+        members.push(member)?;
+    }
+    Ok(())
+}
+
+/// Adds the patterns of the components with their names resolved. Answers whether all keep the restrictions on name
+/// classes.
+fn push_resolved(
+    alloc: Global,
+    context: Context<'_, '_>,
+    components: &[WrittenComponent<'_>],
+    members: &mut Vec<Rc<Pattern>>,
+) -> Result<bool, AllocError>
+    ensures { InContext context.entry (λ inherited ds. IfOk result (AddsResolved inherited ds
+        components.now members.old.items members.new.items)) }
+{
+    for component in components {
+        let Some(pattern) = resolve(alloc, context, component)? else {
+            return Ok(false);
+        };
+        members.push(share_pattern(alloc, pattern)?)?;
+    }
+    Ok(true)
+}
+
+/// For each component of these pieces, the index of the first one that is the same in the same context. Empty where none
+/// stands twice, and where an index takes more than 32 bits.
+fn firsts_of(
+    alloc: Global,
+    row: &[WrittenComponent<'_>],
+    segments: &Segments<'_, '_, '_>,
+    pieces: &[Piece],
+) -> Result<Vec<u32>, AllocError>
+    requires known { IsKnownRow row.now segments.now }
+    requires pieces { AllByRecursion (IsPiece segments.now.list.items row.now) pieces.now }
+    ensures { OfPieces row.now segments.now pieces.now (λ modules k cs. IfOk result
+        (λ firsts. AreTied firsts.items (spec.bodies k cs))) }
+{
+    let mut begins = vec![in alloc; None; segments.list.len()]?;
+    let mut firsts = Vec::with_capacity(alloc, count_of(pieces))?;
+    let mut is_repeated = false;
+    for piece in pieces {
+        let first = segments.list[piece.segment].first;
+        let begin = match begins[first] {
+            Some(begin) => {
+                is_repeated = true;
+                begin
+            }
+            None => firsts.len(),
+        };
+        begins[first] = Some(begin);
+        if !push_indices(&mut firsts, begin, piece.to - piece.from)? {
+            return Ok(Vec::new(alloc));
+        }
+    }
+    if is_repeated {
+        Ok(firsts)
     } else {
         Ok(Vec::new(alloc))
     }
 }
 
-/// Drops the trees of the key's components: of all bodies of the key, where there are fewer bodies than components.
-fn give_up_trees(
-    components: &Components<'_, '_, '_>,
-    trees: &mut Trees<'_>,
-    key: usize,
-    near: &mut Near,
-)
-    ensures others { AgreeElsewhere (trees_by trees.new.trees.items)
-        (trees_by trees.old.trees.items) key }
-    ensures gone { AreGivenUp components.now (trees_by trees.new.trees.items) key }
+/// Adds so many indices from one on. Answers whether each takes no more than 32 bits.
+fn push_indices(firsts: &mut Vec<u32>, begin: usize, count: usize) -> Result<bool, AllocError>
+    ensures { IfOk result (λ b. b ≡ true → firsts.new.items ≡ firsts.old.items
+        ++ numbers_from begin count) }
 {
-    if components.count_bodies() < components.count_of(key) {
-        give_up_bodies(components, trees, key, near);
-        return;
+    for offset in 0..count {
+        let Ok(index) = u32::try_from(begin.saturating_add(offset)) else {
+            return Ok(false);
+        };
+        firsts.push(index)?;
     }
-    for index in 0..components.count_of(key) {
-        if let Some(number) = components.body_of(key, index, near) {
-            give_up_tree(components, trees, key, number, near);
-        }
-    }
-}
-
-/// Drops the trees of all bodies of the key.
-fn give_up_bodies(
-    components: &Components<'_, '_, '_>,
-    trees: &mut Trees<'_>,
-    key: usize,
-    near: &mut Near,
-)
-    ensures others { AgreeElsewhere (trees_by trees.new.trees.items)
-        (trees_by trees.old.trees.items) key }
-    ensures gone { AreGoneTo components.now (trees_by trees.new.trees.items) key
-        (length components.now.bodies) }
-{
-    for number in 0..components.count_bodies() {
-        give_up_tree(components, trees, key, number, near);
-    }
-}
-
-/// Drops the tree of the body with a number, if it is of the key.
-fn give_up_tree(
-    components: &Components<'_, '_, '_>,
-    trees: &mut Trees<'_>,
-    key: usize,
-    number: usize,
-    near: &mut Near,
-)
-    ensures others { AgreeElsewhere (trees_by trees.new.trees.items)
-        (trees_by trees.old.trees.items) key }
-    ensures gone { IfSome (slice_get components.now.bodies number)
-        (λ body. trees_by trees.new.trees.items key body.component.tree ≡ empty) }
-    ensures still { StillGone (trees_by trees.old.trees.items)
-        (trees_by trees.new.trees.items) key }
-{
-    if let Some(body) = components.body(number, near) {
-        trees.give_up(key, body.component.tree);
-    }
-}
-
-/// The pattern of the key's first component, whose tree is dropped.
-#[inline(always)]
-fn combine_one(
-    alloc: Global,
-    keys: &Keys<'_>,
-    components: &Components<'_, '_, '_>,
-    trees: &mut Trees<'_>,
-    key: usize,
-    near: &mut Near,
-) -> Result<Option<Pattern>, Refusal>
-    ensures others { AgreeElsewhere (trees_by trees.new.trees.items)
-        (trees_by trees.old.trees.items) key }
-    ensures gone { AreGivenUpTo components.now (trees_by trees.new.trees.items) key 1 }
-    ensures exact { WithBody (names_of keys.now) components.now
-        (body_of components.now.list (row components.now.places.items key) 0)
-        (λ view e. AgreeAt view (trees_by trees.old.trees.items) e.key → MatchResult result
-        (λ p. IsSomeAnd p (λ q. IsWellNamed e.component (pattern_view q)))
-        (IsMisnamedBy e.component)) }
-{
-    let Some(number) = components.body_of(key, 0, near) else {
-        return Ok(None);
-    };
-    let Some(body) = components.body(number, near) else {
-        return Ok(None);
-    };
-    let pattern = resolve_body(alloc, keys, trees, &body);
-    trees.give_up(key, body.component.tree);
-    Ok(Some(pattern?))
-}
-
-/// The pattern of a key with several components: one list of theirs, in their order.
-fn combine_several(
-    alloc: Global,
-    keys: &Keys<'_>,
-    components: &Components<'_, '_, '_>,
-    trees: &Trees<'_>,
-    shared: &mut Shared,
-    key: usize,
-    near: &mut Near,
-) -> Result<Option<Pattern>, Refusal>
-    ensures size { length shared.new.items ≡ length shared.old.items }
-    ensures kept { WithShared keys.now (trees_by trees.now.trees.items) components.now
-        shared.old.items key
-        (λ view names cs. AreSharedBy keys.now view components.now shared.new.items) }
-    ensures exact { 1 < length (row components.now.places.items key)
-        → WithShared keys.now (trees_by trees.now.trees.items) components.now
-        shared.old.items key (λ view names cs. MatchResult result
-        (IsKeptPattern cs (key_at names key)) (IsMisnamedAt cs (key_at names key))) }
-{
-    let members = member_patterns(alloc, keys, components, trees, shared, key, near)?;
-    Ok(Some(list_by_method(components, key, members, near)))
-}
-
-/// The list of the members, by the key's method.
-fn list_by_method(
-    components: &Components<'_, '_, '_>,
-    key: usize,
-    members: Vec<Rc<Pattern>>,
-    near: &mut Near,
-) -> Pattern
-    ensures { AtKey components.now key (λ k cs. pattern_view result
-        ≡ spec.method_node k cs (shared_trees members.items)) }
-{
-    if components.uses(key, Method::Interleave, near) {
-        interleave(members)
-    } else {
-        choice(members)
-    }
-}
-
-/// The patterns of the key's components, each body resolved once.
-fn member_patterns(
-    alloc: Global,
-    keys: &Keys<'_>,
-    components: &Components<'_, '_, '_>,
-    trees: &Trees<'_>,
-    shared: &mut Shared,
-    key: usize,
-    near: &mut Near,
-) -> Result<Vec<Rc<Pattern>>, Refusal>
-    ensures size { length shared.new.items ≡ length shared.old.items }
-    ensures kept { WithShared keys.now (trees_by trees.now.trees.items) components.now
-        shared.old.items key
-        (λ view names cs. AreSharedBy keys.now view components.now shared.new.items) }
-    ensures exact { WithShared keys.now (trees_by trees.now.trees.items) components.now
-        shared.old.items key (λ view names cs. MatchResult result
-        (λ members. AreWellNamed (spec.of_key (key_at names key) cs)
-        (map shared_view members.items)) (IsMisnamedAt cs (key_at names key))) }
-{
-    let count = components.count_of(key);
-    let mut members = Vec::with_capacity(alloc, count)?;
-    for index in 0..count {
-        let number = components.body_of(key, index, near);
-        let pattern = member_pattern(alloc, keys, components, trees, shared, number, near)?;
-        if let Some(pattern) = pattern {
-            members.push(pattern)?;
-        }
-    }
-    Ok(members)
-}
-
-/// The pattern of the component with a body, shared by all components of it where there is an entry for the body.
-fn member_pattern(
-    alloc: Global,
-    keys: &Keys<'_>,
-    components: &Components<'_, '_, '_>,
-    trees: &Trees<'_>,
-    shared: &mut Shared,
-    found: Option<usize>,
-    near: &mut Near,
-) -> Result<Option<Rc<Pattern>>, Refusal>
-    ensures size { length shared.new.items ≡ length shared.old.items }
-    ensures kept { WithBody (names_of keys.now) components.now found
-        (λ view e. AgreeAt view (trees_by trees.now.trees.items) e.key
-        → AreSharedBy keys.now view components.now shared.old.items
-        → AreSharedBy keys.now view components.now shared.new.items) }
-    ensures exact { WithBody (names_of keys.now) components.now found
-        (λ view e. AgreeAt view (trees_by trees.now.trees.items) e.key
-        → AreSharedBy keys.now view components.now shared.old.items → MatchResult result
-        (λ p. IsSomeAnd p (λ q. IsWellNamed e.component (shared_view q)))
-        (IsMisnamedBy e.component)) }
-{
-    let Some(number) = found else {
-        return Ok(None);
-    };
-    if let Some(Some(pattern)) = shared.get(number) {
-        return Ok(Some(pattern.clone()?));
-    }
-    let Some(body) = components.body(number, near) else {
-        return Ok(None);
-    };
-    let pattern = match shared.get_mut(number) {
-        Some(held) => share_body(alloc, keys, trees, &body, held)?,
-        None => share_pattern(alloc, resolve_body(alloc, keys, trees, &body)?)?,
-    };
-    Ok(Some(pattern))
-}
-
-/// The pattern of the body, which is held from now on.
-fn share_body(
-    alloc: Global,
-    keys: &Keys<'_>,
-    trees: &Trees<'_>,
-    body: &Body<'_, '_>,
-    held: &mut Option<Rc<Pattern>>,
-) -> Result<Rc<Pattern>, Refusal>
-    ensures kept { OfBody (names_of keys.now) (trees_by trees.now.trees.items) body.now
-        (λ c. MayHold c held.old → MayHold c held.new) }
-    ensures exact { OfBody (names_of keys.now) (trees_by trees.now.trees.items) body.now
-        (λ c. MatchResult result (λ p. IsWellNamed c (shared_view p)) (IsMisnamedBy c)) }
-{
-    let pattern = share_pattern(alloc, resolve_body(alloc, keys, trees, body)?)?;
-    *held = Some(pattern.clone()?);
-    Ok(pattern)
-}
-
-/// The pattern of a body that keeps the restrictions on name classes.
-#[inline(always)]
-fn resolve_body(
-    alloc: Global,
-    keys: &Keys<'_>,
-    trees: &Trees<'_>,
-    body: &Body<'_, '_>,
-) -> Result<Pattern, Refusal>
-    ensures { OfBody (names_of keys.now) (trees_by trees.now.trees.items) body.now
-        (λ c. MatchResult result (λ p. IsWellNamed c (pattern_view p)) (IsMisnamedBy c)) }
-{
-    let pattern = resolve_tree(alloc, trees, body)?;
-    if !keeps_name_rules(&pattern) {
-        return Err(Refusal::NameClass {
-            key: keys.key(alloc, body.component.key)?,
-        });
-    }
-    Ok(pattern)
-}
-
-/// The body's tree with its names resolved; `empty` in the place of a tree that was dropped.
-fn resolve_tree(
-    alloc: Global,
-    trees: &Trees<'_>,
-    body: &Body<'_, '_>,
-) -> Result<Pattern, AllocError>
-    ensures { InContext body.now.context (λ inherited ds. IfOk result (λ p. pattern_view p
-        ≡ resolved_pattern inherited ds (trees_by trees.now.trees.items body.now.component.key
-        body.now.component.tree))) }
-{
-    match trees.tree(body.component.key, body.component.tree) {
-        Some(tree) => resolve_pattern(alloc, body.context, tree),
-        None => Ok(Pattern::Empty),
-    }
+    Ok(true)
 }

@@ -1,32 +1,25 @@
 // What a module consists of, with each div replaced by its children.
-ghost use Rattle.std.specs.Prelude.{◌≡◌, ◌+◌, ◌<◌, ◌∷◌, ◌++◌, [], List, length, IfOk, OnOk};
+ghost use Rattle.std.specs.Prelude.{◌≡◌, ◌+◌, ◌<◌, ◌≤◌, ◌∷◌, [], Contains, List, length, true, IfOk, Some, slice_get};
 ghost use Rattle.std.specs.List.Sorted.{IsStrictlySortedBy};
 ghost use Rattle.rn_text.specs.Texts.{text_cmp};
 ghost use Rattle.rn_syntax.specs.View.{boxed_view, item_view, items_view, prefix_view};
 ghost use Rattle.rn_assemble.specs.Components as components;
-ghost use Rattle.rn_assemble.specs.declared.trees.KeyedTree.{KeyedTree};
+ghost use Rattle.rn_assemble.specs.declared.contents.Include as code_include;
+ghost use Rattle.rn_assemble.specs.declared.named_modules.NamedModule as code_module;
 ghost use Rattle.rn_assemble.specs.inside.Contained.{item_inclusions, inclusions, item_written_components, written_components};
+ghost use Rattle.rn_assemble.specs.inside.ContentsOf.{AreApart, AreContents, HasOrderedIncludes, IsContents, IsSegmentOf, segment_end};
 ghost use Rattle.rn_assemble.specs.inside.Keyed.{AreAmong, AreNames, defines, item_defines, key_at};
-ghost use Rattle.rn_assemble.specs.inside.Listed.{AreContents, IsContents};
-ghost use Rattle.rn_assemble.specs.inside.Trees.{Grows, trees_by};
-ghost use Rattle.rn_assemble.specs.inside.Views.{AreInOrder, AreNamed, AddsComponents, AddsIncludes, module_with, names_of, with_items};
+ghost use Rattle.rn_assemble.specs.inside.Rows.{AddsRows, AreRows, placed_from};
+ghost use Rattle.rn_assemble.specs.inside.Views.{AreInOrder, AreNamed, AddsIncludes, module_with, names_of, with_items};
 
 use crate::constants::Constants;
 use crate::declared_uris::DeclaredUris;
 use crate::inclusion::module_named;
+use crate::key_rows::{KeyRows, WrittenComponent};
 use crate::keys::{Keys, START};
 use crate::named_modules::NamedModule;
-use crate::trees::Trees;
 use rn_syntax::{Item, Method, Pat, Prefix};
 use std::alloc::{AllocError, Global};
-
-/// A define or a start of a module: its key's number, its method and the number of its tree.
-#[derive(Clone, Copy)]
-pub(crate) struct WrittenComponent {
-    pub key: usize,
-    pub method: Method,
-    pub tree: usize,
-}
 
 /// An include: the number of the module that it names, if there is one, and its own components as numbers among those
 /// of the including module.
@@ -38,19 +31,53 @@ pub(crate) struct Include<'s> {
     pub to: usize,
 }
 
-/// What a module's declarations bind, its components and its includes, in the order of the text.
+/// What a module's declarations bind, how many components it has, and its includes in the order of the text.
 #[derive(Drop)]
 pub(crate) struct Contents<'t, 's> {
     pub bindings: DeclaredUris<'t>,
-    pub components: Vec<WrittenComponent>,
+    pub count: usize,
     pub includes: Vec<Include<'s>>,
 }
 
-/// The contents of each module, and the trees of all components.
-pub(crate) type AllContents<'t, 's> = (Vec<Contents<'t, 's>>, Trees<'s>);
+impl Contents<'_, '_> {
+    /// How many includes come before the component of that number. So it is the number of the segment that has the
+    /// component.
+    pub fn segment_of(&self, component: usize) -> usize
+        requires { HasOrderedIncludes self.now }
+        ensures { IsSegmentOf self.now component result }
+    {
+        self.includes
+            .partition_point(|include: &Include<'_>| include.from <= component)
+    }
 
-/// The contents of each module, whose items are given apart, and the trees of all components, numbered on from module to
-/// module.
+    /// Whether the component of that number is one of an include's own.
+    pub fn is_own(&self, component: usize) -> bool
+        requires ordered { HasOrderedIncludes self.now }
+        requires apart { AreApart self.now.includes.items }
+        ensures { (i : code_include.Include) → Contains self.now.includes.items i
+            → i.from ≤ component → component < i.to → result ≡ true }
+    {
+        match self.segment_of(component).checked_sub(1) {
+            Some(include) => component < self.includes[include].to,
+            None => false,
+        }
+    }
+
+    /// The number behind the last component of the segment of that number.
+    pub fn end_of_segment(&self, segment: usize) -> usize
+        ensures { result ≡ segment_end self.now segment }
+    {
+        match self.includes.get(segment) {
+            Some(include) => include.from,
+            None => self.count,
+        }
+    }
+}
+
+/// The contents of each module, and of each key the components that modules define.
+pub(crate) type AllContents<'t, 's> = (Vec<Contents<'t, 's>>, KeyRows<'s>);
+
+/// The contents of each module, whose items are given apart, and the components of each key.
 pub(crate) fn contents_of<'t, 's>(
     alloc: Global,
     modules: &'t [NamedModule<'s>],
@@ -61,148 +88,171 @@ pub(crate) fn contents_of<'t, 's>(
     requires modules_in_order { AreInOrder modules.now }
     requires size { length items.items ≡ length modules.now }
     requires names { AreNames (with_items modules.now items.items) (names_of keys.now) }
-    ensures { IfOk result (λ all. AreContents (with_items modules.now items.entry.items)
-        (names_of keys.now) (trees_by all.1.trees.items) all.0.items) }
+    ensures contents { IfOk result (λ all. AreContents (with_items modules.now items.entry.items)
+        all.0.items) }
+    ensures rows { IfOk result (λ all. AreRows (with_items modules.now items.entry.items)
+        (names_of keys.now) all.1.rows.items) }
 {
     let mut all = Vec::with_capacity(alloc, modules.len())?;
-    let mut trees = Trees::new(alloc);
+    let mut rows = KeyRows::new(alloc, keys.len())?;
     for items in items {
-        let module = &modules[all.len()];
+        let number = all.len();
         let contents = contents_of_module(
-            alloc, modules, keys, constants, module, items, &mut trees,
+            alloc, modules, keys, constants, number, items, &mut rows,
         )?;
         all.push(contents)?;
     }
-    Ok((all, trees))
+    Ok((all, rows))
 }
 
-/// The contents of a module with these items, whose trees are added.
+/// The contents of the module of that number, which has these items. Its components are added to the rows of their keys.
 fn contents_of_module<'t, 's>(
     alloc: Global,
-    modules: &[NamedModule<'s>],
+    modules: &'t [NamedModule<'s>],
     keys: &Keys<'s>,
     constants: &Constants,
-    module: &'t NamedModule<'s>,
+    number: usize,
     items: Vec<Item<'s>>,
-    trees: &mut Trees<'s>,
+    rows: &mut KeyRows<'s>,
 ) -> Result<Contents<'t, 's>, AllocError>
+    requires within { number < length modules.now }
     requires keys_in_order { IsStrictlySortedBy text_cmp (names_of keys.now) }
     requires defined { AreAmong (names_of keys.now) (defines (items_view items.items)) }
     requires modules_in_order { AreInOrder modules.now }
-    ensures grown { OnOk result (Grows trees.old trees.new) }
-    ensures exact { (ms : List components.NamedModule) → AreNamed ms modules.now
-        → IfOk result (λ c. (later : List KeyedTree) → IsContents ms (names_of keys.now)
-        (trees_by (trees.new.trees.items ++ later)) (module_with «module».now items.entry) c) }
+    requires size { length rows.old.rows.items ≡ length (names_of keys.now) + 1 }
+    ensures rows { IfOk result (λ _. AddsRows (names_of keys.now) rows.old.rows.items
+        rows.new.rows.items (placed_from number 0
+        (written_components (items_view items.entry.items)))) }
+    ensures exact { (ms : List components.NamedModule) (m : code_module.NamedModule)
+        → AreNamed ms modules.now → slice_get modules.now number ≡ Some m
+        → IfOk result (IsContents ms (module_with m items.entry)) }
 {
     let mut contents = Contents {
-        bindings: DeclaredUris::new(alloc, module.tree.decls.as_slice(), constants)?,
-        components: Vec::with_capacity(alloc, items.len())?,
+        bindings: DeclaredUris::new(alloc, modules[number].tree.decls.as_slice(), constants)?,
+        count: 0,
         includes: Vec::new(alloc),
     };
-    gather(&mut contents, trees, modules, keys, items)?;
+    gather(&mut contents, rows, modules, keys, number, items)?;
     Ok(contents)
 }
 
-/// Adds what the items consist of.
+/// Adds what the items of the module of that number consist of.
 #[cycle(gather)]
 fn gather<'t, 's>(
     contents: &mut Contents<'t, 's>,
-    trees: &mut Trees<'s>,
+    rows: &mut KeyRows<'s>,
     modules: &[NamedModule<'s>],
     keys: &Keys<'s>,
+    number: usize,
     items: Vec<Item<'s>>,
 ) -> Result<(), AllocError>
     requires keys_in_order { IsStrictlySortedBy text_cmp (names_of keys.now) }
     requires modules_in_order { AreInOrder modules.now }
+    requires size { length rows.old.rows.items ≡ length (names_of keys.now) + 1 }
     ensures bindings { contents.new.bindings ≡ contents.old.bindings }
-    ensures components { AreAmong (names_of keys.now) (defines (items_view items.entry.items))
-        → IfOk result (λ _. AddsComponents keys.now contents.old contents.new trees.old trees.new
-        (written_components (items_view items.entry.items))) }
-    ensures more { IfOk result (λ _. length contents.new.components.items
-        ≡ length contents.old.components.items
+    ensures kept { length rows.new.rows.items ≡ length rows.old.rows.items }
+    ensures rows { AreAmong (names_of keys.now) (defines (items_view items.entry.items))
+        → IfOk result (λ _. AddsRows (names_of keys.now) rows.old.rows.items rows.new.rows.items
+        (placed_from number contents.old.count
+        (written_components (items_view items.entry.items)))) }
+    ensures count { IfOk result (λ _. contents.new.count ≡ contents.old.count
         + length (written_components (items_view items.entry.items))) }
     ensures includes { (ms : List components.NamedModule) → AreNamed ms modules.now
         → IfOk result (λ _. AddsIncludes contents.old contents.new
-        (inclusions ms (length contents.old.components.items) (items_view items.entry.items))) }
+        (inclusions ms contents.old.count (items_view items.entry.items))) }
 {
     'items: for item in items {
-        gather_item(contents, trees, modules, keys, item)?;
+        gather_item(contents, rows, modules, keys, number, item)?;
     }
     Ok(())
 }
 
-/// Adds what the item consists of.
+/// Adds what the item of the module of that number consists of.
 #[cycle(gather)]
 fn gather_item<'t, 's>(
     contents: &mut Contents<'t, 's>,
-    trees: &mut Trees<'s>,
+    rows: &mut KeyRows<'s>,
     modules: &[NamedModule<'s>],
     keys: &Keys<'s>,
+    number: usize,
     item: Item<'s>,
 ) -> Result<(), AllocError>
     requires keys_in_order { IsStrictlySortedBy text_cmp (names_of keys.now) }
     requires modules_in_order { AreInOrder modules.now }
+    requires size { length rows.old.rows.items ≡ length (names_of keys.now) + 1 }
     ensures bindings { contents.new.bindings ≡ contents.old.bindings }
-    ensures components { AreAmong (names_of keys.now) (item_defines (item_view item.entry))
-        → IfOk result (λ _. AddsComponents keys.now contents.old contents.new trees.old trees.new
-        (item_written_components (item_view item.entry))) }
-    ensures more { IfOk result (λ _. length contents.new.components.items
-        ≡ length contents.old.components.items
+    ensures kept { length rows.new.rows.items ≡ length rows.old.rows.items }
+    ensures rows { AreAmong (names_of keys.now) (item_defines (item_view item.entry))
+        → IfOk result (λ _. AddsRows (names_of keys.now) rows.old.rows.items rows.new.rows.items
+        (placed_from number contents.old.count (item_written_components (item_view item.entry)))) }
+    ensures count { IfOk result (λ _. contents.new.count ≡ contents.old.count
         + length (item_written_components (item_view item.entry))) }
     ensures includes { (ms : List components.NamedModule) → AreNamed ms modules.now
         → IfOk result (λ _. AddsIncludes contents.old contents.new
-        (item_inclusions ms (length contents.old.components.items) (item_view item.entry))) }
+        (item_inclusions ms contents.old.count (item_view item.entry))) }
 {
     match item {
         Item::Define { name, method, body } => {
             let key = keys.number(name);
-            push_component(contents, trees, keys, key, method, body)
+            push_component(contents, rows, keys, number, key, method, body)
         }
         Item::Start { method, body } => {
-            push_component(contents, trees, keys, START, method, body)
+            push_component(contents, rows, keys, number, START, method, body)
         }
-        Item::Div(items) => gather(contents, trees, modules, keys, items),
+        Item::Div(items) => gather(contents, rows, modules, keys, number, items),
         Item::Include(include) => {
             let rn_syntax::Include {
                 wanted,
                 inherit,
                 items,
             } = Box::into_inner(include);
-            let from = contents.components.len();
-            gather(contents, trees, modules, keys, items)?;
+            let from = contents.count;
+            gather(contents, rows, modules, keys, number, items)?;
             let module = module_named(modules, &wanted);
             push_include(contents, module, inherit, from)
         }
     }
 }
 
-/// Adds a component, and its tree.
+/// Adds a component of the module of that number.
 #[inline(always)]
 fn push_component<'t, 's>(
     contents: &mut Contents<'t, 's>,
-    trees: &mut Trees<'s>,
+    rows: &mut KeyRows<'s>,
     keys: &Keys<'s>,
+    module: usize,
     key: usize,
     method: Method,
     body: Box<Pat<'s>>,
 ) -> Result<(), AllocError>
+    requires size { length rows.old.rows.items ≡ length (names_of keys.now) + 1 }
     ensures bindings { contents.new.bindings ≡ contents.old.bindings }
-    ensures components { key < length (names_of keys.now) + 1
-        → IfOk result (λ _. AddsComponents keys.now contents.old contents.new trees.old trees.new
-        (record {
+    ensures kept { length rows.new.rows.items ≡ length rows.old.rows.items }
+    ensures rows { key < length (names_of keys.now) + 1
+        → IsStrictlySortedBy text_cmp (names_of keys.now)
+        → IfOk result (λ _. AddsRows (names_of keys.now) rows.old.rows.items rows.new.rows.items
+        (placed_from «module» contents.old.count (record {
           key = key_at (names_of keys.now) key;
           method = method;
           pattern = boxed_view body.entry;
-        } ∷ [])) }
-    ensures more { IfOk result (λ _. length contents.new.components.items
-        ≡ length contents.old.components.items + 1) }
+        } ∷ []))) }
+    ensures count { IfOk result (λ _. contents.new.count ≡ contents.old.count + 1) }
     ensures includes { contents.new.includes.items ≡ contents.old.includes.items }
 {
-    let tree = trees.len();
-    trees.push(key, body)?;
-    contents
-        .components
-        .push(WrittenComponent { key, method, tree })?;
+    let number = contents.count;
+    let Some(count) = number.checked_add(1) else {
+        return Err(AllocError);
+    };
+    rows.push(
+        key,
+        WrittenComponent {
+            module,
+            number,
+            method,
+            body,
+        },
+    )?;
+    contents.count = count;
     Ok(())
 }
 
@@ -214,16 +264,16 @@ fn push_include<'t, 's>(
     from: usize,
 ) -> Result<(), AllocError>
     ensures bindings { contents.new.bindings ≡ contents.old.bindings }
-    ensures components { contents.new.components.items ≡ contents.old.components.items }
+    ensures count { contents.new.count ≡ contents.old.count }
     ensures includes { IfOk result (λ _. AddsIncludes contents.old contents.new
         (record {
           module_at = «module»;
           inherit = prefix_view inherit.entry;
           first = from;
-          end = length contents.old.components.items;
+          end = contents.old.count;
         } ∷ [])) }
 {
-    let to = contents.components.len();
+    let to = contents.count;
     contents.includes.push(Include {
         module,
         inherit,

@@ -1,11 +1,12 @@
 // A module's declarations under the namespace that it inherits.
-ghost use Rattle.std.specs.Prelude.{◌≡◌, ◌<◌, [], length, unwrap_or};
+ghost use Rattle.std.specs.Prelude.{◌≡◌, ◌<◌, [], length, unwrap_or, List};
 ghost use Rattle.std.specs.Rc.{rc_str_bytes};
 ghost use Rattle.rn_syntax.specs.BindingDeclarations.{bound};
 ghost use Rattle.rn_syntax.specs.Places as places;
 ghost use Rattle.rn_syntax.specs.Places.{uri_at};
+ghost use Rattle.rn_syntax.specs.Tree.{Declaration};
 ghost use Rattle.rn_syntax.specs.View.{prefix_view};
-ghost use Rattle.rn_assemble.specs.inside.ContextBindings.{InContext};
+ghost use Rattle.rn_assemble.specs.inside.ContextBindings.{AgreeUnder, BindsAs, InContext};
 ghost use Rattle.rn_assemble.specs.Components as components;
 ghost use Rattle.rn_assemble.specs.Resolve.{default_of, namespace_of, uri_text};
 
@@ -21,6 +22,27 @@ pub(crate) struct Context<'c, 't> {
 }
 
 impl<'c, 't> Context<'c, 't> {
+    /// The declarations under the namespace that the module inherits; under none where they make nothing of it, so that
+    /// the context is the same wherever the module is included.
+    #[tactic(auto, using(crate::proofs::Expansion::SameNamespaces::agree_itself))]
+    pub fn of(bindings: &'c DeclaredUris<'t>, inherited: &'c RcStr) -> Context<'c, 't>
+        ensures bindings { result.bindings ≡ bindings.entry }
+        ensures alike { (ds : List Declaration) → BindsAs bindings.now ds
+            → AgreeUnder ds (rc_str_bytes inherited.now) (rc_str_bytes result.inherited.now) }
+    {
+        if bindings.inherits() {
+            Context {
+                bindings,
+                inherited,
+            }
+        } else {
+            Context {
+                bindings,
+                inherited: &bindings.constants.none,
+            }
+        }
+    }
+
     /// The URI of the declaration of that number.
     fn uri(self, number: usize) -> &'c RcStr
         requires { number < length (bound self.bindings.now.numbers) }

@@ -1,9 +1,13 @@
 // The URIs of a module's declarations. Each is copied once, and shared by all that is resolved by it.
-ghost use Rattle.std.specs.Prelude.{◌≡◌, map, IfOk};
+ghost use Rattle.std.specs.Prelude.{◌≡◌, false, List, map, IfOk};
+ghost use Rattle.std.specs.List.{list_any};
+ghost use Rattle.rn_text.specs.Texts.{Text};
 ghost use Rattle.rn_syntax.specs.BindingDeclarations.{bound};
 ghost use Rattle.rn_syntax.specs.Places.{uri_of};
+ghost use Rattle.rn_syntax.specs.Tree as tree;
 ghost use Rattle.rn_syntax.specs.View.{declaration_view, uri_view};
-ghost use Rattle.rn_assemble.specs.inside.Shared.{shared_uri};
+ghost use Rattle.rn_assemble.specs.declared.declared_uris.SharedUri.{SharedUri};
+ghost use Rattle.rn_assemble.specs.inside.Shared.{is_inherited, shared_uri};
 
 use crate::constants::Constants;
 use rn_syntax::{Bindings, Declaration, Uri};
@@ -27,7 +31,7 @@ pub(crate) struct DeclaredUris<'t> {
 }
 
 impl<'t> DeclaredUris<'t> {
-    ghost use Rattle.rn_assemble.specs.inside.ContextBindings.{BindsAs};
+    ghost use Rattle.rn_assemble.specs.inside.ContextBindings.{AgreeUnder, BindsAs};
 
     /// What these declarations bind, and their URIs.
     #[tactic(auto, using(crate::specs::inside::ContextBindings::are_bound))]
@@ -44,6 +48,25 @@ impl<'t> DeclaredUris<'t> {
             constants: constants.share()?,
         })
     }
+
+    /// Whether the default namespace, or that of some prefix, is the one that the module inherits.
+    pub fn inherits(&self) -> bool
+        ensures { (ds : List tree.Declaration) (u v : Text) → BindsAs self.now ds → result ≡ false
+            → AgreeUnder ds u v }
+    {
+        match self.numbers.default() {
+            Some(_) => has_inherited(&self.uris),
+            None => true,
+        }
+    }
+}
+
+/// Whether one of the URIs is the inherited namespace.
+fn has_inherited(uris: &[SharedUri]) -> bool
+    ensures { result ≡ list_any (λ (u : SharedUri). is_inherited (shared_uri u)) uris.now }
+{
+    uris.iter()
+        .any(|uri: &SharedUri| matches!(uri, SharedUri::Inherited))
 }
 
 /// The URI of each declaration.

@@ -4,33 +4,28 @@
 #![tactic(auto)]
 
 pub mod assembly;
-mod bodies;
+mod checks;
 mod combining;
-mod components;
 mod constants;
 mod contents;
 mod context;
 mod declared_uris;
-mod definitions;
-mod expanding;
-mod firsts;
 pub mod grammar;
 mod inclusion;
 mod instances;
+mod key_rows;
 mod keys;
-mod methods;
 mod named_modules;
 mod nodes;
-mod number_runs;
-mod overriding;
+mod pieces;
 mod references;
 pub mod refusal;
 mod resolution;
 mod seeds;
+mod segments;
 mod settling_order;
 pub mod short_uris;
 mod shortening;
-mod trees;
 
 pub use assembly::{ShortGrammar, assemble, assemble_short};
 pub use grammar::{Definitions, Grammar};

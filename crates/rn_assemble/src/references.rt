@@ -1,34 +1,27 @@
-// The references of the keys.
-ghost use Rattle.std.specs.Prelude.{ℕ, ◌≡◌, ◌+◌, ◌<◌, ◌↔◌, List, [], ◌∷◌, length, ◌++◌, map, nat_eq, option_map, is_some, slice_index_or, MatchResult, IfOk, IsTrue, OnOk};
-ghost use Rattle.std.specs.List.{AllByRecursion, IsDistinct};
-ghost use Rattle.std.specs.List.Sorted.{IsStrictlySortedBy};
-ghost use Rattle.rn_text.specs.Texts.{Text, text_cmp};
-ghost use Rattle.rn_pattern.specs.References.{IsUndefined};
-ghost use Rattle.rn_assemble.specs.Components.{Component};
-ghost use Rattle.rn_syntax.specs.Tree.{empty};
-ghost use Rattle.rn_syntax.specs.View.{pattern_view, patterns_view};
+// The references of all components, and names that are referred to but not defined (RELAX NG 2001, 4.18 and 4.19).
+ghost use Rattle.std.specs.Prelude.{ℕ, ◌≡◌, ◌+◌, ◌<◌, ◌≤◌, ◌↔◌, ◌⊎◌, ◌++◌, [], Bool, true, false, List, length, map, option_map, slice_index_or, IfOk, MatchResult, OnOk};
+ghost use Rattle.std.specs.List.{AllByRecursion};
 ghost use Rattle.std.specs.Option.{option_map_or};
-ghost use Rattle.rn_assemble.specs.Combine.{joined_grammar};
-ghost use Rattle.rn_assemble.specs.Least.{IsLeast};
+ghost use Rattle.rn_text.specs.Texts.{Text, text_cmp};
+ghost use Rattle.rn_pattern.specs.Graph.{AllBelow, IsGraph, rows_of};
+ghost use Rattle.rn_pattern.specs.References.{IsUndefined};
 ghost use Rattle.rn_pattern.specs.declared.references.Reach.TheVariants.{Everywhere, OutsideElements};
-ghost use Rattle.rn_assemble.specs.inside.Keyed.{IsFound};
+ghost use Rattle.rn_syntax.specs.View.{pattern_view, patterns_view};
+ghost use Rattle.rn_assemble.specs.Combine.{joined_grammar};
+ghost use Rattle.rn_assemble.specs.Components.{Component};
+ghost use Rattle.rn_assemble.specs.Least.{IsLeast};
+ghost use Rattle.rn_assemble.specs.declared.pieces.Piece as specs_piece;
+ghost use Rattle.rn_assemble.specs.inside.Pieces.{AreKnownBy, OfKeys};
 ghost use Rattle.rn_assemble.specs.inside.ReferenceOrder.{AreDefinedKeys};
-ghost use Rattle.rn_assemble.specs.inside.Referred.{AreAllReferences, AreByKey, AreInOrder, AreNumbers, IsLeastUndefined, IsRowNumber, KeepsLeast, all_references, lesser_text, names_within, number_within, reference_view, references, references_in, tree_of};
+ghost use Rattle.rn_assemble.specs.inside.Referred.{AreAllReferences, AreLiveMarks, AreMarksOf, AreNumbers, IsLeastUndefined, KeepsLeast, all_references, lesser_text, marked_references, names_within, number_within, reference_view, references};
 ghost use Rattle.rn_assemble.specs.inside.Views.{names_of};
-ghost use Rattle.rn_pattern.specs.Matching.{definition_of};
-ghost use Rattle.rn_pattern.specs.Graph.{AllBelow, IsGraph, row, rows_of};
-ghost use Rattle.rn_assemble.specs.inside.Listed.{Lists, Live, OfTrees, components_in};
-ghost use Rattle.rn_assemble.specs.inside.Trees.{TreeView, trees_by};
 
-mod looked_bodies;
-
-use crate::components::{Components, Near};
-use crate::keys::{Keys, START};
+use crate::key_rows::{KeyRows, WrittenComponent};
+use crate::keys::Keys;
+use crate::pieces::Piece;
 use crate::refusal::Refusal;
-use crate::settling_order::definition_numbers;
-use crate::trees::Trees;
-use looked_bodies::{bodies_of, nothing_looked};
-use rn_pattern::{NodeReferences, Reach, ReferenceRows, Rows};
+use crate::segments::Segments;
+use rn_pattern::{NodeReferences, Reach, ReferenceRows};
 use rn_syntax::Pat;
 use std::alloc::{AllocError, Global};
 
@@ -39,143 +32,57 @@ struct Reference<'s> {
     reach: Reach,
 }
 
-/// The references of all components. `Undefined` names the least name that is referred to and has no component.
-/// `defined` are the keys of the definitions. They are gone through in their order after start, which is that of their
-/// bodies in memory.
+/// The references of all components, by keys. `Undefined` names the least name that is referred to and has no component;
+/// `defined` are the keys of the names that have some.
 pub(crate) fn references_of<'s>(
     alloc: Global,
     keys: &Keys<'s>,
-    components: &Components<'_, '_, 's>,
-    trees: &Trees<'s>,
+    rows: &KeyRows<'s>,
+    segments: &Segments<'_, '_, '_>,
     defined: &[usize],
 ) -> Result<ReferenceRows, Refusal>
-    requires once { IsDistinct nat_eq (0 ∷ defined.now) }
-    requires within { AllByRecursion (λ k. k < length (names_of keys.now) + 1) defined.now }
+    requires { AreKnownBy (names_of keys.now) rows.now segments.now }
     ensures everywhere { IfOk result (λ r. IsGraph (rows_of r.everywhere)) }
     ensures everywhere_size { IfOk result (λ r. length (rows_of r.everywhere)
         ≡ length (names_of keys.now) + 1) }
     ensures outside { IfOk result (λ r. IsGraph (rows_of r.outside)) }
     ensures outside_size { IfOk result (λ r. length (rows_of r.outside)
         ≡ length (names_of keys.now) + 1) }
-    ensures found { OfTrees keys.now (trees_by trees.now.trees.items) components.now
+    ensures found { OfKeys keys.now rows.now segments.now
         (λ names cs. AreDefinedKeys names cs defined.now → MatchResult result
         (λ r. AreAllReferences names cs (rows_of r.everywhere) (rows_of r.outside))
         (IsLeastUndefined cs)) }
 {
-    let mut looked = nothing_looked(alloc, components)?;
-    let mut bodies = Vec::new(alloc);
+    let is_defined = marks_of(alloc, rows.len(), defined)?;
+    let mut pieces = Vec::new(alloc);
     let mut references = Vec::new(alloc);
     let mut row = NodeReferences::new(alloc);
     let mut undefined = None;
-    let count = defined.len() + 1;
-    let mut rows = ReferenceRows::with_capacity(alloc, count)?;
-    let mut near = Near::default();
-    for number in 0..count {
-        let key = key_of_row(defined, number);
-        bodies_of(components, key, &mut looked, &mut near, &mut bodies)?;
-        references_in(components, trees, &bodies, &mut near, &mut references)?;
-        row_of(keys, components, &references, &mut undefined, &mut row)?;
-        rows.push_row(&row)?;
+    let mut found = ReferenceRows::with_capacity(alloc, rows.len())?;
+    for key in 0..rows.len() {
+        let written = rows.row(key);
+        segments.live_pieces(written, &mut pieces)?;
+        references_in(alloc, written, &pieces, &mut references)?;
+        row_of(keys, &is_defined, &references, &mut undefined, &mut row)?;
+        found.push_row(&row)?;
     }
     match undefined {
         Some(name) => Err(undefined_name(alloc, name)),
-        None => Ok(in_order_of_keys(alloc, keys.len(), defined, rows)?),
+        None => Ok(found),
     }
 }
 
-/// The key whose row has that number, where start's row is followed by those of the defined keys.
-fn key_of_row(defined: &[usize], number: usize) -> usize
-    ensures { result ≡ slice_index_or (0 ∷ defined.now) number 0 }
+/// For each of so many numbers, whether it is one of these.
+fn marks_of(alloc: Global, count: usize, numbers: &[usize]) -> Result<Vec<bool>, AllocError>
+    ensures { IfOk result (λ marks. AreMarksOf numbers.now count marks.items) }
 {
-    match number.checked_sub(1) {
-        Some(index) => defined.get(index).copied().unwrap_or(START),
-        None => START,
+    let mut marks = vec![in alloc; false; count]?;
+    for number in numbers {
+        if *number < marks.len() {
+            marks[*number] = true;
+        }
     }
-}
-
-/// The rows of start and of the defined keys, which follow it in their order, in the order of their keys. They stay as
-/// they are where they have that order already. Any other of that many keys has an empty row.
-fn in_order_of_keys(
-    alloc: Global,
-    count: usize,
-    defined: &[usize],
-    rows: ReferenceRows,
-) -> Result<ReferenceRows, AllocError>
-    requires once { IsDistinct nat_eq defined.now }
-    requires within { AllByRecursion (λ k. k < count) defined.now }
-    requires everywhere_size { length (rows_of rows.everywhere) ≡ length defined.now + 1 }
-    requires outside_size { length (rows_of rows.outside) ≡ length defined.now + 1 }
-    ensures everywhere { IfOk result (λ r. AreByKey (0 ∷ defined.now) count
-        (rows_of rows.everywhere) (rows_of r.everywhere)) }
-    ensures outside { IfOk result (λ r. AreByKey (0 ∷ defined.now) count
-        (rows_of rows.outside) (rows_of r.outside)) }
-{
-    if are_in_order(count, defined) {
-        return Ok(rows);
-    }
-    rows_by_key(alloc, count, defined, &rows)
-}
-
-/// Whether start and the defined keys behind it are all of that many keys, each in its place.
-fn are_in_order(count: usize, defined: &[usize]) -> bool
-    ensures { IsTrue result ↔ AreInOrder count (0 ∷ defined.now) }
-{
-    defined.len() + 1 == count && (0..count).all(|number| key_of_row(defined, number) == number)
-}
-
-/// Puts the rows of start and of the defined keys, which follow it in their order, into the order of their keys. Any
-/// other of that many keys has an empty row.
-fn rows_by_key(
-    alloc: Global,
-    count: usize,
-    defined: &[usize],
-    rows: &ReferenceRows,
-) -> Result<ReferenceRows, AllocError>
-    requires once { IsDistinct nat_eq defined.now }
-    requires within { AllByRecursion (λ k. k < count) defined.now }
-    ensures everywhere { IfOk result (λ r. AreByKey (0 ∷ defined.now) count
-        (rows_of rows.now.everywhere) (rows_of r.everywhere)) }
-    ensures outside { IfOk result (λ r. AreByKey (0 ∷ defined.now) count
-        (rows_of rows.now.outside) (rows_of r.outside)) }
-{
-    let numbers = definition_numbers(alloc, count, defined)?;
-    let mut by_key = ReferenceRows::with_capacity(alloc, count)?;
-    for key in 0..count {
-        let number = row_number(defined, &numbers, key);
-        let everywhere = row_or_none(&rows.everywhere, number);
-        by_key.everywhere.push_row(everywhere)?;
-        let outside = row_or_none(&rows.outside, number);
-        by_key.outside.push_row(outside)?;
-    }
-    Ok(by_key)
-}
-
-/// The number of a key's row, where start's row is followed by those of the defined keys; none for any other key.
-/// `numbers` has the index of each defined key.
-fn row_number(defined: &[usize], numbers: &[usize], key: usize) -> Option<usize>
-    ensures { ((i : ℕ) → i < length defined.now
-        → slice_index_or numbers.now (slice_index_or defined.now i 0) 0 ≡ i)
-        → IsRowNumber (0 ∷ defined.now) key result }
-{
-    if key == START {
-        return Some(0);
-    }
-    let index = numbers.get(key).copied().unwrap_or(0);
-    if index < defined.len() && defined[index] == key {
-        Some(index + 1)
-    } else {
-        None
-    }
-}
-
-/// The row with that number; an empty one where there is none.
-fn row_or_none(rows: &Rows, number: Option<usize>) -> &[usize]
-    ensures { result.now ≡ option_map_or (row (rows_of rows.now)) number [] }
-{
-    match number {
-        Some(number) if number < rows.len() => rows.row(number),
-        _ => &[],
-    }
+    Ok(marks)
 }
 
 /// The refusal of a set for an undefined name.
@@ -189,38 +96,51 @@ fn undefined_name(alloc: Global, name: &str) -> Refusal
     }
 }
 
-/// Puts the references of the bodies with these numbers into `found`, in the place of what it held.
+/// Puts the references of the components of these pieces into `found`, in the place of what it held; those of each
+/// component once.
 fn references_in<'s>(
-    components: &Components<'_, '_, 's>,
-    trees: &Trees<'s>,
-    bodies: &[usize],
-    near: &mut Near,
+    alloc: Global,
+    row: &[WrittenComponent<'s>],
+    pieces: &[Piece],
     found: &mut Vec<Reference<'s>>,
 ) -> Result<(), AllocError>
-    ensures { OnOk result (map reference_view found.new.items
-        ≡ references_in (trees_by trees.now.trees.items) components.now bodies.now) }
+    requires { AllByRecursion (λ (p : specs_piece.Piece). (p.from ≤ p.to) × (p.to ≤ length row.now))
+        pieces.now }
+    ensures { OnOk result ((marks : List Bool) × AreLiveMarks pieces.now (length row.now) marks
+        × (map reference_view found.new.items ≡ marked_references marks row.now)) }
 {
     found.clear();
-    for number in bodies {
-        if let Some(tree) = tree_of(components, trees, *number, near) {
-            refer(tree, Reach::OutsideElements, found)?;
+    let is_live = live_marks(alloc, row.len(), pieces)?;
+    for index in 0..row.len() {
+        if is_live[index] {
+            refer(&row[index].body, Reach::OutsideElements, found)?;
         }
     }
     Ok(())
 }
 
-/// The tree of the body with that number, if it wasn't dropped.
-fn tree_of<'x, 's>(
-    components: &Components<'_, '_, 's>,
-    trees: &'x Trees<'s>,
-    number: usize,
-    near: &mut Near,
-) -> Option<&'x Pat<'s>>
-    ensures { option_map_or (λ p. pattern_view p.now) result empty
-        ≡ tree_of (trees_by trees.now.trees.items) components.now.bodies number }
+/// For each of so many components, whether a piece has it.
+fn live_marks(alloc: Global, count: usize, pieces: &[Piece]) -> Result<Vec<bool>, AllocError>
+    requires { AllByRecursion (λ (p : specs_piece.Piece). (p.from ≤ p.to) × (p.to ≤ count))
+        pieces.now }
+    ensures { IfOk result (λ marks. AreLiveMarks pieces.now count marks.items) }
 {
-    let body = components.body(number, near)?;
-    trees.tree(body.component.key, body.component.tree)
+    let mut marks = vec![in alloc; false; count]?;
+    for piece in pieces {
+        mark_all(marks.as_mut_slice(), piece.from, piece.to);
+    }
+    Ok(marks)
+}
+
+/// Marks the numbers from one up to another.
+fn mark_all(marks: &mut [bool], from: usize, to: usize)
+    requires ordered { from ≤ to }
+    requires within { to ≤ length marks.old }
+    ensures size { length marks.new ≡ length marks.old }
+    ensures marked { (n : ℕ) → (slice_index_or marks.new n false ≡ true)
+        ↔ ((slice_index_or marks.old n false ≡ true) ⊎ ((from ≤ n) × (n < to))) }
+{
+    marks[from..to].fill(true);
 }
 
 /// Adds the references of a pattern that stands in that reach.
@@ -266,10 +186,10 @@ fn refer_all<'s>(
 }
 
 /// Puts the keys that are referred to into `row`, in the place of what it held. `undefined` gets the least of the names
-/// that have no component, and of the one held before.
+/// that have no component, and of the one held before; `is_defined` has a mark for each key that has some.
 fn row_of<'s>(
     keys: &Keys<'s>,
-    components: &Components<'_, '_, 's>,
+    is_defined: &[bool],
     references: &[Reference<'s>],
     undefined: &mut Option<&'s str>,
     row: &mut NodeReferences,
@@ -282,17 +202,29 @@ fn row_of<'s>(
         row.new.outside.items) }
     ensures outside { OnOk result (AreNumbers (names_of keys.now)
         (names_within OutsideElements (map reference_view references.now)) row.new.outside.items) }
-    ensures least { OnOk result (KeepsLeast (names_of keys.now) components.now
+    ensures least { OnOk result (KeepsLeast (names_of keys.now) is_defined.now
         (names_within Everywhere (map reference_view references.now))
-        undefined.old undefined.new) }
+        (option_map (λ s. s.now) undefined.old) (option_map (λ s. s.now) undefined.new)) }
 {
     row.clear();
     for reference in references {
         let key = keys.find(reference.name);
         add_key(row, key, reference.reach)?;
-        *undefined = least_undefined(components, reference.name, key, *undefined);
+        if !has_mark(is_defined, key) {
+            *undefined = Some(lesser_name(*undefined, reference.name));
+        }
     }
     Ok(())
+}
+
+/// Whether the key of a name, if the name has one, has a mark.
+fn has_mark(marks: &[bool], key: Option<usize>) -> bool
+    ensures { result ≡ option_map_or (λ k. slice_index_or marks.now k false) key false }
+{
+    match key {
+        Some(key) => marks.get(key).copied().unwrap_or(false),
+        None => false,
+    }
 }
 
 /// Adds the key of a name that a reference with this narrowest reach refers to, if the name has one.
@@ -305,37 +237,6 @@ fn add_key(row: &mut NodeReferences, key: Option<usize>, reach: Reach) -> Result
     match key {
         Some(key) => row.add(key, reach),
         None => Ok(()),
-    }
-}
-
-/// The lesser of a name that has no component and the one held before, or the one that there is. The name's key is
-/// given, if it has one.
-fn least_undefined<'s>(
-    components: &Components<'_, '_, '_>,
-    name: &'s str,
-    key: Option<usize>,
-    held: Option<&'s str>,
-) -> Option<&'s str>
-    ensures { (names : List Text) → IsFound names name.now key
-        → KeepsLeast names components.now (name.now ∷ []) held.entry result }
-{
-    if has_components(components, key) {
-        held
-    } else {
-        Some(lesser_name(held, name))
-    }
-}
-
-/// Whether the key of a name, if the name has one, has components.
-fn has_components(components: &Components<'_, '_, '_>, key: Option<usize>) -> bool
-    ensures { (trees : TreeView) (names : List Text) (live : List Live) (x : Text)
-        → Lists names trees components.now live
-        → IsStrictlySortedBy text_cmp names → IsFound names x key
-        → result ≡ is_some (definition_of (joined_grammar (components_in live)) x) }
-{
-    match key {
-        Some(key) => components.count_of(key) > 0,
-        None => false,
     }
 }
 

@@ -1,22 +1,24 @@
 // The order in which keys, and the definitions of a grammar, can be settled (RELAX NG 2001, 4.19).
-ghost use Rattle.std.specs.Prelude.{ℕ, ◌<◌, ◌≤◌, ◌≡◌, IfOk, List, Some, length, map, nat_eq, slice_get, slice_index_or};
+ghost use Rattle.std.specs.Prelude.{ℕ, ◌<◌, ◌≡◌, IfOk, List, length, map, nat_eq, slice_index_or};
 ghost use Rattle.std.specs.List.Sorted.{IsStrictlySortedBy};
 ghost use Rattle.rn_text.specs.Texts.{Text, text_cmp};
-ghost use Rattle.rn_pattern.specs.Graph.{IsGraph, row, rows_of};
+ghost use Rattle.rn_pattern.specs.Graph.{IsGraph, rows_of};
 ghost use Rattle.rn_pattern.specs.Ranks.{rank_of};
-ghost use Rattle.rn_assemble.specs.Components.{Component};
+ghost use Rattle.rn_assemble.specs.Components.{Component, NamedModule};
+ghost use Rattle.rn_assemble.specs.inside.FirstPlaces.{AreFirstPlaces};
+ghost use Rattle.rn_assemble.specs.inside.Pieces.{AreKnown, OfRows};
+ghost use Rattle.rn_assemble.specs.inside.Rows.{AreRows};
+ghost use Rattle.rn_assemble.specs.inside.Segments.{AreSegmentsOf};
 ghost use Rattle.rn_assemble.specs.inside.ReferenceOrder.{AreDefinedKeys, ArePlaces, IsKeyOrder, IsOrderBy, IsReferenceOrder};
 ghost use Rattle.rn_assemble.specs.inside.Referred.{AreAllReferences};
 ghost use Rattle.std.specs.List.{AllByRecursion, IsDistinct};
 ghost use Rattle.rn_assemble.specs.Combine.{joined_grammar};
 ghost use Rattle.rn_assemble.specs.SettlingOrder.{IsSettlingOrder};
-ghost use Rattle.rn_assemble.specs.inside.Listed.{Lists, Live, OfKeys};
-ghost use Rattle.rn_assemble.specs.inside.Patterns.{IsFirstAt};
-ghost use Rattle.rn_assemble.specs.inside.Trees.{TreeView};
 ghost use Rattle.rn_assemble.specs.inside.Views.{names_of};
 
-use crate::components::{Components, Near};
+use crate::key_rows::KeyRows;
 use crate::keys::{Keys, START};
+use crate::segments::Segments;
 use rn_pattern::ReferenceRows;
 use rn_pattern::graph::{marked_rows, reached_nodes};
 use rn_pattern::ranks::{Order, ranks};
@@ -95,66 +97,59 @@ pub(crate) fn settling_order(
     numbers_of(alloc, order, &numbers)
 }
 
+/// The key of a name, and where its first component stands: in which segment, and with which number there.
+#[derive(Clone, Copy)]
+struct FirstPlace {
+    segment: usize,
+    number: usize,
+    key: usize,
+}
+
 /// The keys of the names that the components define, in the order of each one's first component.
 pub(crate) fn defined_keys(
     alloc: Global,
-    components: &Components<'_, '_, '_>,
+    rows: &KeyRows<'_>,
+    segments: &Segments<'_, '_, '_>,
 ) -> Result<Vec<usize>, AllocError>
-    ensures { (keys : Keys) → OfKeys keys components.now
+    requires { AreKnown rows.now segments.now }
+    ensures { OfRows rows.now segments.now
         (λ names cs. IfOk result (λ v. AreDefinedKeys names cs v.items)) }
 {
-    let mut keys = Vec::new(alloc);
-    let mut near = Near::default();
-    for place in 0..end_of_firsts(components) {
-        if let Some(key) = components.first_at(place, &mut near) {
-            keys.push(key)?;
-        }
+    let mut places = first_places(alloc, rows, segments)?;
+    places.sort_by_key(|place: &FirstPlace| (place.segment, place.number))?;
+    let mut keys = Vec::with_capacity(alloc, places.len())?;
+    for place in &places {
+        keys.push(place.key)?;
     }
     Ok(keys)
 }
 
-/// The place behind the first components of all keys, or a later one. Where bodies stand again and again, none of the
-/// places behind it need be looked at.
-fn end_of_firsts(components: &Components<'_, '_, '_>) -> usize
-    ensures { (key place : ℕ) → place < length components.now.list
-        → slice_get (row components.now.places.items key) 0 ≡ Some place → place < result }
+/// Where the first component of each name stands that has one.
+fn first_places(
+    alloc: Global,
+    rows: &KeyRows<'_>,
+    segments: &Segments<'_, '_, '_>,
+) -> Result<Vec<FirstPlace>, AllocError>
+    requires { AreKnown rows.now segments.now }
+    ensures { (modules : List NamedModule) (names : List Text) (cs : List Component)
+        → IsStrictlySortedBy text_cmp names → AreRows modules names rows.now.rows.items
+        → AreSegmentsOf modules segments.now cs
+        → IfOk result (λ v. AreFirstPlaces modules segments.now names cs v.items) }
 {
-    let count = components.count();
-    if !components.may_repeat_bodies() {
-        return count;
-    }
-    last_first(components).saturating_add(1).min(count)
-}
-
-/// The last of the places of the keys' first components; 0 where there are none.
-fn last_first(components: &Components<'_, '_, '_>) -> usize
-    ensures { (key place : ℕ) → slice_get (row components.now.places.items key) 0 ≡ Some place
-        → place ≤ result }
-{
-    let mut last = 0;
-    for key in 0..components.count_keys() {
-        let first = components.first_of(key).unwrap_or(0);
-        last = last.max(first);
-    }
-    last
-}
-
-impl<'c, 't, 's> Components<'c, 't, 's> {
-    /// The number of the name whose first component is at that place.
-    pub fn first_at(&self, place: usize, near: &mut Near) -> Option<usize>
-        ensures { (trees : TreeView) (names : List Text) (live : List Live)
-            → Lists names trees self.now live
-            → IsStrictlySortedBy text_cmp names → IsFirstAt names live place result }
-    {
-        let body = self.body_at(place, near)?;
-        let key = self.body(body, near)?.component.key;
-        let first = self.first_of(key)?;
-        if key != START && first == place {
-            Some(key)
-        } else {
-            None
+    let mut places = Vec::with_capacity(alloc, rows.len())?;
+    let mut pieces = Vec::new(alloc);
+    for key in START + 1..rows.len() {
+        let row = rows.row(key);
+        segments.live_pieces(row, &mut pieces)?;
+        if let Some(first) = pieces.first() {
+            places.push(FirstPlace {
+                segment: first.segment,
+                number: row[first.from].number,
+                key,
+            })?;
         }
     }
+    Ok(places)
 }
 
 /// For each of that many keys, the index of it among the defined ones; 0 for those that aren't among them.

@@ -24,9 +24,6 @@ none_named : (d : Text × Tree) (ds : List (Text × Tree)) → AllByRecursion (D
 none_named d [] h = refl
 none_named d (e ∷ ds) h = ap (λ b. cond b (plain_definition e ∷ of_key (name_key d.0) (map plain_definition ds)) (of_key (name_key d.0) (map plain_definition ds))) h.0.0 ∙ none_named d ds h.1
 
-names_of : List (Text × Tree) → List Text
-names_of ds = map (λ d. d.0) ds
-
 kept_names : (d : Text × Tree) (ds : List (Text × Tree)) → AllByRecursion (Differ d) ds → filter (λ y. not (bytes_eq d.0 y)) (map (λ e. e.0) ds) ≡ map (λ e. e.0) ds
 kept_names d [] h = refl
 kept_names d (e ∷ ds) h = ap (λ b. cond (not b) (e.0 ∷ filter (λ y. not (bytes_eq d.0 y)) (map (λ e. e.0) ds)) (filter (λ y. not (bytes_eq d.0 y)) (map (λ e. e.0) ds))) h.0.0 ∙ ap (λ l. e.0 ∷ l) (kept_names d ds h.1)

@@ -13,7 +13,7 @@ use Rattle.rn_syntax.specs.View.{module_view}
 use Rattle.rn_assemble.specs.declared.named_modules.NamedModule as code
 use Rattle.rn_assemble.specs.Components.{Includes, NamedModule, instance_limit, instances_within, roots, included_by}
 use Rattle.rn_syntax.specs.Tree.{includes}
-use Rattle.rn_assemble.specs.inside.Expanded.{name_at}
+use Rattle.rn_assemble.specs.inside.ContentsOf.{name_at}
 use Rattle.rn_assemble.specs.inside.Included.{AreIncluded}
 use Rattle.rn_assemble.specs.inside.Inclusions.{AreInclusions, IsLeastAmong, IsMissing, entries}
 use Rattle.rn_assemble.specs.inside.Instances.{instances_of}

@@ -1,36 +1,39 @@
 -- The lacks of a module are those that its includes bring.
-use Rattle.std.proofs.Common.{◌≡◌, ◌⊎◌, inl, inr, ⊎_elim, ℕ, zero, suc, ◌+◌, ◌-◌, ◌≤◌, Bool, true, false, ◌&&◌, ◌||◌, List, [], ◌∷◌, ◌++◌, length, drop, map, Option, Some, None, refl, sym, ap, ◌∙◌, subst, arith, Contains}
-use Rattle.std.specs.Prelude.{bytes_eq, not, slice_range}
-use Rattle.std.specs.List.{Any, AllByRecursion, AllZip, list_any}
+use Rattle.std.proofs.Common.{◌≡◌, ◌⊎◌, inl, inr, ⊎_elim, ℕ, zero, suc, ◌+◌, ◌≤◌, Bool, true, ◌&&◌, ◌||◌, List, [], ◌∷◌, ◌++◌, length, map, Option, Some, None, refl, sym, ap, ◌∙◌, subst, arith, Contains}
+use Rattle.std.specs.Prelude.{not, ◌↔◌, slice_range}
+use Rattle.std.specs.List.{Any, list_any}
 use Rattle.std.proofs.Math.Bool.{or-false}
-use Rattle.std.proofs.lemmas.Bool.{and_parts, false≢true}
 use Rattle.std.proofs.lemmas.List.{length-append, length-map, map-append, get_or-map}
-use Rattle.std.proofs.lemmas.List.Elements.{All-contains, filter_passes}
+use Rattle.std.proofs.lemmas.List.Elements.{Contains-append_left, Contains-push, Contains-push_cases}
 use Rattle.std.proofs.lemmas.List.Folds.{Any-from_list_any, list_any-append, list_any-from_Any}
-use Rattle.std.proofs.lemmas.Slice.Eq.{bytes_eq-Decides}
 use Rattle.rn_text.specs.Texts.{Text}
-use Rattle.rn_pattern.proofs.Ordered.InOrder.{contained_each, contains_cases, contains_front}
+use Rattle.rn_pattern.proofs.Ordered.InOrder.{contains_cases, contains_front}
 use Rattle.rn_syntax.specs.Tree as t
 use Rattle.rn_syntax.specs.Tree.{Declaration, Item, Items, includes, item_includes}
-use Rattle.rn_assemble.specs.declared.contents.WrittenComponent as code
-use Rattle.rn_assemble.specs.declared.components.Lack.{Lack}
-use Rattle.rn_assemble.specs.declared.contents.Contents.{Contents}
-use Rattle.rn_assemble.specs.Components.{Component, Key, NamedModule, components_within, handed_on, has_key, modules_named, same_key}
+use Rattle.rn_assemble.specs.Components.{Component, Key, NamedModule, components_within, handed_on, has_key, modules_named}
+use Rattle.rn_assemble.specs.inside.Bringing.{IncludedLacks, InclusionLacks, included_in}
 use Rattle.rn_assemble.specs.inside.Contained.{AreFlat, Inclusion, IsFlat, WrittenComponent, inclusions, item_inclusions, item_written_components, place_in, written_components}
-use Rattle.rn_assemble.specs.inside.Expanded.{included_in, name_at}
-use Rattle.rn_assemble.specs.inside.Keyed.{key_at}
+use Rattle.rn_assemble.specs.inside.ContentsOf.{resolved_component}
 use Rattle.rn_assemble.specs.inside.Lacking.{LacksWithin, handed_namespaces, item_handed_namespaces}
-use Rattle.rn_assemble.specs.inside.Listed.{AreContents, IsContents, resolved_component}
-use Rattle.rn_assemble.specs.inside.Noting.{AtNumbers, IncludedLacks, InclusionLacks, Notes}
 use Rattle.rn_assemble.specs.Refusal.{item_lacks, items_lack}
-use Rattle.rn_assemble.specs.inside.Views.{IsNumbered, inclusion_view, written_view}
-use Rattle.rn_assemble.proofs.Expansion.ModuleExpansion.{each_drop, each_take}
+use Rattle.rn_assemble.proofs.Expansion.IncludeOrder.{items_none, no_includes_behind, no_includes_front}
 use Rattle.rn_assemble.proofs.Expansion.ModuleLookups.{included_agrees, none_named, place_name}
-use Rattle.rn_assemble.proofs.Expansion.NotedLacks.{IsKeyNumber, IsModuleName, SomeLacks, notes_to}
-use Rattle.rn_assemble.proofs.Referring.KeyNumbers.{same_key-Decides}
-use Rattle.rn_assemble.proofs.Expansion.Spliced.{items_none, items_plain, no_includes_behind, no_includes_front, range_parts, whole_range}
-use Rattle.rn_assemble.proofs.Joining.UsedMethods.{kept_contains}
-use Rattle.rn_assemble.specs.inside.Trees.{TreeView}
+use Rattle.rn_assemble.proofs.Expansion.Ranges.{range_parts, whole_range}
+use Rattle.rn_assemble.proofs.Expansion.Spliced.{items_plain}
+
+-- lacks that one of these brings, and those of one more
+abbrev pub SomeLacks : {X : Type 0} → (X → Text → Key → Type 0) → List X → Text → Key → Type 0
+SomeLacks {X} P xs y k = (x : X) × Contains xs x × P x y k
+
+module _ {X : Type 0} (P : X → Text → Key → Type 0) (y : Text) (k : Key) where
+  pub some_none : ⊥ ↔ SomeLacks P [] y k
+  some_none = (λ h. absurd h, λ h. omega (arith, h.1.1))
+
+  pub some_more : (xs : List X) (x : X) → (SomeLacks P xs y k ⊎ P x y k) ↔ SomeLacks P (xs ++ x ∷ []) y k
+  some_more xs x = (
+    ⊎_elim (λ p. (p.0, Contains-append_left xs (x ∷ []) p.0 p.1, p.2)) (λ p. (x, Contains-push xs x, p)),
+    λ p. ⊎_elim (λ c. inl (p.0, c, p.2)) (λ e. inr (subst (λ z. P z y k) (sym e) p.2)) (Contains-push_cases xs x p.0 p.1),
+  )
 
 -- some element of a list, and of what it is made to
 any_map : {X Y : Type 0} (f : X → Y) (P : Y → Type 0) (xs : List X) → Any (λ x. P (f x)) xs → Any P (map f xs)
@@ -166,67 +169,14 @@ module _ (depth : ℕ) (modules : List NamedModule) (x u : Text) (m : NamedModul
       let a = any_unmap (wanted_at modules u m.tree.declarations) Within (handed_namespaces u m.tree.declarations m.tree.items) (subst (λ (ws : List (Option ℕ × Text)). Any Within ws) (sym (handed_by modules u m.tree.declarations 0 m.tree.items flat)) at) in
       inr (a.1, (a.0, a.2, a.3), lacked_from depth modules a.1.0 a.1.1 y k (place_in modules a.1.0) refl a.4)
 
-  pub lacks_brought : LacksWithin (suc depth) modules x u y k → SomeLacks (InclusionLacks depth modules x u m.tree.declarations (written_components m.tree.items)) is y k
+  lacks_brought : LacksWithin (suc depth) modules x u y k → SomeLacks (InclusionLacks depth modules x u m.tree.declarations (written_components m.tree.items)) is y k
   lacks_brought h =
       let only : (m ≡ h.0) ⊎ Contains [] h.0 = contains_cases m h.0 [] (subst (λ (ms : List NamedModule). Contains ms h.0) named h.1) in
       let a = to_brought (⊎_elim (λ s. subst InModule (sym s) h.2) (λ c. absurd (omega (arith, c.1))) only) in
       (a.1, (a.0, a.2, a.3), a.4)
 
-  pub brought_lacks : SomeLacks (InclusionLacks depth modules x u m.tree.declarations (written_components m.tree.items)) is y k → LacksWithin (suc depth) modules x u y k
+  brought_lacks : SomeLacks (InclusionLacks depth modules x u m.tree.declarations (written_components m.tree.items)) is y k → LacksWithin (suc depth) modules x u y k
   brought_lacks (i, c, h) = (m, subst (λ (ms : List NamedModule). Contains ms m) (sym named) (contains_front m []), from_brought (c.0, i, c.1, c.2, h))
 
--- what the includes of a module's contents brought is what the module lacks
-pub module_noted : {trees : TreeView} (depth : ℕ) (modules : List NamedModule) (names : List Text) (x u : Text) (m : NamedModule) (content : Contents) (old new : Option Lack) → modules_named x modules ≡ m ∷ [] → AreFlat m.tree.items → IsContents modules names trees m content
-    → Notes (AtNumbers modules names (SomeLacks (InclusionLacks depth modules x u m.tree.declarations (map (written_view names trees) content.components.items)) (map inclusion_view content.includes.items))) old new
-    → Notes (AtNumbers modules names (LacksWithin (suc depth) modules x u)) old new
-module_noted depth modules names x u m content old new named flat is h =
-    let By : List WrittenComponent → List Inclusion → Text → Key → Type 0 = λ ws js. SomeLacks (InclusionLacks depth modules x u m.tree.declarations ws) js in
-    let ws = written_components m.tree.items in
-    let js = inclusions modules 0 m.tree.items in
-    let here : Notes (AtNumbers modules names (By ws js)) old new = subst (λ (ks : List Inclusion). Notes (AtNumbers modules names (By ws ks)) old new) is.includes
-    (subst (λ (vs : List WrittenComponent). Notes (AtNumbers modules names (By vs (map inclusion_view content.includes.items))) old new) is.components h) in
-    notes_to (AtNumbers modules names (By ws js)) (AtNumbers modules names (LacksWithin (suc depth) modules x u)) old new
-    (λ l p. (p.0, p.1, brought_lacks depth modules x u m named flat (name_at modules l.«module») (key_at names l.key) p.2))
-    (λ l p. (p.0, p.1, lacks_brought depth modules x u m named flat (name_at modules l.«module») (key_at names l.key) p.2)) here
-
--- a lack is of one of the modules, and of one of the keys
-paired : {X Y : Type 0} (R : X → Y → Type 0) (xs : List X) (ys : List Y) (x : X) → AllZip R xs ys → Contains xs x → (y : Y) × R x y
-paired R [] ys x z c = absurd (omega (arith, c.1))
-paired R (a ∷ xs) [] x z c = absurd z
-paired R (a ∷ xs) (b ∷ ys) x z c = ⊎_elim (λ e. (b, subst (λ v. R v b) e z.0)) (λ d. paired R xs ys x z.1 d) (contains_cases a x xs c)
-
-abbrev HasNumber : List Text → WrittenComponent → Type 0
-HasNumber names w = IsKeyNumber names w.key
-
-numbered_written : (names : List Text) (trees : TreeView) (cs : List code.WrittenComponent) → AllByRecursion (IsNumbered names) cs → AllByRecursion (HasNumber names) (map (written_view names trees) cs)
-numbered_written names trees [] h = tt
-numbered_written names trees (c ∷ cs) h = ((c.key, h.0, refl), numbered_written names trees cs h.1)
-
-number_at : (names : List Text) (k : Key) (w : WrittenComponent) (b r : Bool) → same_key k w.key ≡ b → HasNumber names w → (r ≡ true → IsKeyNumber names k) → (b || r) ≡ true → IsKeyNumber names k
-number_at names k w true r e h f t = (h.0, h.1, (same_key-Decides k w.key).0 e ∙ h.2)
-number_at names k w false r e h f t = f t
-
-number_of : (names : List Text) (u : Text) (ds : List Declaration) (k : Key) (ws : List WrittenComponent) → AllByRecursion (HasNumber names) ws → has_key k (map (resolved_component u ds) ws) ≡ true → IsKeyNumber names k
-number_of names u ds k [] h e = absurd (false≢true e)
-number_of names u ds k (w ∷ ws) h e = number_at names k w (same_key k w.key) (has_key k (map (resolved_component u ds) ws)) refl h.0 (number_of names u ds k ws h.1) e
-
-module _ (modules : List NamedModule) (names : List Text) (trees : TreeView) (contents : List Contents) (are : AreContents modules names trees contents) (flat : AllByRecursion (λ (m : NamedModule). AreFlat m.tree.items) modules) where
-  key_number : (depth : ℕ) (u : Text) (m : NamedModule) (k : Key) → Contains modules m → items_lack (components_within depth modules) u m.tree.declarations m.tree.items k ≡ true → IsKeyNumber names k
-  key_number depth u m k c e =
-      let r = paired (IsContents modules names trees) modules contents m are c in
-      let ws = written_components m.tree.items in
-      let fl = contained_each (λ (n : NamedModule). AreFlat n.tree.items) modules flat m c in
-      let a = Any-from_list_any (lacks_by modules (components_within depth modules) (included_in depth modules) (included_agrees depth modules) u m.tree.declarations ws k) (inclusions modules 0 m.tree.items) (items_lack_is modules (components_within depth modules) (included_in depth modules) (included_agrees depth modules) u m.tree.declarations k m.tree.items fl ∙ e) in
-      let i = a.1 in
-      let own = and_parts (has_key k (map (resolved_component u m.tree.declarations) (slice_range ws i.first i.end))) _ a.4 in
-      let each : AllByRecursion (HasNumber names) ws = subst (λ (vs : List WrittenComponent). AllByRecursion (HasNumber names) vs) r.1.components (numbered_written names trees r.0.components.items r.1.numbered) in
-      number_of names u m.tree.declarations k (slice_range ws i.first i.end) (each_take (HasNumber names) (i.end - i.first) (drop i.first ws) (each_drop (HasNumber names) i.first ws each)) own.0
-
-  pub lack_found : (depth : ℕ) (x u y : Text) (k : Key) → LacksWithin depth modules x u y k → IsModuleName modules y × IsKeyNumber names k
-  lack_found zero x u y k h = absurd h
-  lack_found (suc depth) x u y k (m, c, inl (s, e)) =
-      let there = kept_contains (λ (n : NamedModule). bytes_eq x n.name) modules m c in
-      let test = All-contains (λ (n : NamedModule). bytes_eq x n.name ≡ true) (modules_named x modules) m (filter_passes (λ (n : NamedModule). bytes_eq x n.name) modules) c in
-      let name : y ≡ m.name = sym s ∙ (bytes_eq-Decides x m.name).0 test in
-      ((there.0, there.1, name ∙ sym (get_or-map (λ (n : NamedModule). n.name) modules there.0 m [] there.1 ∙ ap (λ (n : NamedModule). n.name) there.2)), key_number depth u m k there e)
-  lack_found (suc depth) x u y k (m, c, inr (w, d, h)) = lack_found depth w.0 w.1 y k h
+  pub lacks_are : SomeLacks (InclusionLacks depth modules x u m.tree.declarations (written_components m.tree.items)) is y k ↔ LacksWithin (suc depth) modules x u y k
+  lacks_are = (brought_lacks, lacks_brought)

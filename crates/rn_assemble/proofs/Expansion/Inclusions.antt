@@ -19,7 +19,7 @@ use Rattle.rn_pattern.proofs.Graphs.FirstLoop.{source_within}
 use Rattle.rn_assemble.specs.Components.{Includes, NamedModule, included_by, instances_within, modules_named, roots}
 use Rattle.rn_syntax.specs.Tree.{includes}
 use Rattle.rn_assemble.specs.inside.Contained.{place_in}
-use Rattle.rn_assemble.specs.inside.Expanded.{name_at}
+use Rattle.rn_assemble.specs.inside.ContentsOf.{name_at}
 use Rattle.rn_assemble.specs.inside.Inclusions.{AreInclusions, IsMissing}
 use Rattle.rn_assemble.specs.inside.Instances.{instances_of}
 use Rattle.rn_assemble.specs.Least.{IsLeast}

@@ -14,12 +14,12 @@ use Rattle.rn_syntax.specs.Tree as t
 use Rattle.rn_syntax.specs.Tree.{Declaration, Item, Items, item_includes, includes}
 use Rattle.rn_assemble.specs.Components.{Key, NamedModule, Includes, components_within, instance_limit, instances_within, modules_named, roots, included_by}
 use Rattle.rn_assemble.specs.inside.Contained.{AreFlat}
-use Rattle.rn_assemble.specs.inside.Expanded.{name_at}
+use Rattle.rn_assemble.specs.inside.ContentsOf.{name_at}
 use Rattle.rn_assemble.specs.inside.Included.{AreIncluded}
 use Rattle.rn_assemble.specs.inside.Lacking.{LacksFrom, LacksWithin, handed_namespaces, item_handed_namespaces}
 use Rattle.rn_assemble.specs.Refusal.{Lacks, items_lack}
 use Rattle.rn_assemble.proofs.Combined.Depth.{few}
-use Rattle.rn_assemble.proofs.Referring.FoundReferences.{flat_contains, map_contained, map_contains}
+use Rattle.rn_assemble.proofs.Referring.ListMembers.{flat_contains, map_contained, map_contains}
 use Rattle.rn_assemble.proofs.Expansion.Rooted.{IsRooted, includer, kept, rooted}
 use Rattle.rn_assemble.proofs.Expansion.SameKeys.{HaveSameKeys, items_lack_same, keys_enough}
 

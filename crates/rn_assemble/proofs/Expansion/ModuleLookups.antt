@@ -1,15 +1,15 @@
 -- Modules by their names and by their places.
-use Rattle.std.proofs.Common.{◌≡◌, ℕ, zero, suc, ◌+◌, ◌<◌, Bool, true, false, cond, List, [], ◌∷◌, length, get_or, map, Option, Some, None, refl, sym, ap, ◌∙◌, subst, arith, Less, Equal, append-nil}
+use Rattle.std.proofs.Common.{◌≡◌, ℕ, zero, suc, ◌+◌, ◌<◌, Bool, true, false, cond, List, [], ◌∷◌, length, get_or, map, Option, Some, None, refl, sym, ap, ◌∙◌, arith, Less, Equal, append-nil}
 use Rattle.std.specs.Prelude.{flat_map, bytes_eq}
-use Rattle.std.specs.List.{AllByRecursion, AllZip, position_from}
+use Rattle.std.specs.List.{AllByRecursion, position_from}
 use Rattle.std.specs.List.Sorted.{IsStrictlySortedBy}
 use Rattle.std.proofs.lemmas.Cmp.{nat_list_cmp_total, tied_itself}
-use Rattle.std.proofs.lemmas.List.Elements.{All-from_recursion}
 use Rattle.std.proofs.lemmas.Slice.Eq.{bytes_eq-Decides}
 use Rattle.rn_text.specs.Texts.{Text, text_cmp}
 use Rattle.rn_assemble.specs.Components.{NamedModule, components_within, module_components, modules_named}
-use Rattle.rn_assemble.specs.inside.Contained.{AreFlat, place_in}
-use Rattle.rn_assemble.specs.inside.Expanded.{included_in, name_at}
+use Rattle.rn_assemble.specs.inside.Contained.{place_in}
+use Rattle.rn_assemble.specs.inside.Bringing.{included_in}
+use Rattle.rn_assemble.specs.inside.ContentsOf.{name_at}
 use Rattle.rn_assemble.proofs.Expansion.ModulePlaces.{differs}
 
 -- a place that is found, or none
@@ -67,23 +67,6 @@ one_named (m ∷ ms) o (suc i) l =
     let x = name_at ms i in
     let above = less_at m.name ms i o.0 (omega (arith, l)) in
     (r.0, r.1, ap (λ b. cond b (m ∷ modules_named x ms) (modules_named x ms)) (differs x m.name (λ e. let t : Less ≡ Equal = sym above ∙ ap (text_cmp m.name) e ∙ tied_itself nat_list_cmp_total m.name in cc)) ∙ r.2)
-
-zip_at : {C : Type 0} (R : NamedModule → C → Type 0) (ms : List NamedModule) (cs : List C) → AllZip R ms cs → (i : ℕ) → i < length ms → (d : NamedModule) (e : C) → R (get_or ms i d) (get_or cs i e)
-zip_at R [] cs z i l d e = absurd (omega (arith, l))
-zip_at R (m ∷ ms) [] z i l d e = absurd z
-zip_at R (m ∷ ms) (c ∷ cs) z zero l d e = z.0
-zip_at R (m ∷ ms) (c ∷ cs) z (suc i) l d e = zip_at R ms cs z.1 i (omega (arith, l)) d e
-
--- R holds of the module at a place and what stands there
-pub module_at : {C : Type 0} (R : NamedModule → C → Type 0) (ms : List NamedModule) (cs : List C) → IsStrictlySortedBy text_cmp (map (λ (m : NamedModule). m.name) ms) → AllZip R ms cs → AllByRecursion (λ (m : NamedModule). AreFlat m.tree.items) ms → (i : ℕ) → i < length ms
-    → (m : NamedModule) × ((c : C) → R m (get_or cs i c)) × (modules_named (name_at ms i) ms ≡ m ∷ []) × AreFlat m.tree.items
-module_at R ms cs o z f i l =
-    let r = one_named ms o i l in (
-      r.0,
-      λ c. subst (λ m. R m (get_or cs i c)) (r.1 r.0) (zip_at R ms cs z i l r.0 c),
-      r.2,
-      subst (λ (m : NamedModule). AreFlat m.tree.items) (r.1 r.0) (All-from_recursion (λ (m : NamedModule). AreFlat m.tree.items) ms f i r.0 l),
-    )
 
 pub expanded_is : (depth : ℕ) (ms : List NamedModule) (i : ℕ) (u : Text) (m : NamedModule) → modules_named (name_at ms i) ms ≡ m ∷ [] → components_within (suc depth) ms (name_at ms i) u ≡ module_components (components_within depth ms) u m.tree
 expanded_is depth ms i u m e = ap (flat_map (λ (k : NamedModule). module_components (components_within depth ms) u k.tree)) e ∙ append-nil (module_components (components_within depth ms) u m.tree)

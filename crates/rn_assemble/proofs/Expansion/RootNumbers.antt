@@ -14,7 +14,7 @@ use Rattle.rn_pattern.specs.Graph.{AllBelow, IsGraph, row}
 use Rattle.rn_pattern.proofs.Ordered.InOrder.{contains_behind, contains_front}
 use Rattle.rn_assemble.specs.Components.{NamedModule, roots}
 use Rattle.rn_syntax.specs.Tree.{includes}
-use Rattle.rn_assemble.specs.inside.Expanded.{name_at}
+use Rattle.rn_assemble.specs.inside.ContentsOf.{name_at}
 use Rattle.rn_assemble.specs.inside.Inclusions.{AreInclusions, entries}
 use Rattle.rn_assemble.proofs.Expansion.Inclusions.{included_at, same_place}
 

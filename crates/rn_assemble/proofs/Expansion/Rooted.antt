@@ -12,7 +12,7 @@ use Rattle.rn_pattern.specs.References.{Reaches, by_one, by_more}
 use Rattle.rn_pattern.proofs.Ordered.InOrder.{contains_behind, contains_cases, contains_front}
 use Rattle.rn_assemble.specs.Components.{NamedModule, Includes, included_by, modules_named, roots}
 use Rattle.rn_syntax.specs.Tree.{includes}
-use Rattle.rn_assemble.proofs.Referring.FoundReferences.{flat_contains, flat_contained, map_contains}
+use Rattle.rn_assemble.proofs.Referring.ListMembers.{flat_contains, flat_contained, map_contains}
 use Rattle.rn_assemble.proofs.Expansion.LongerPaths.{reach_last}
 
 module _ {X : Type 0} where

@@ -26,7 +26,7 @@ kept_key true false k c rest more free e s h = h ∙ ap (λ x. more && x) (sym (
 kept_key false true k c rest more free e s h = ap (λ x. x || has_key k rest) e ∙ h
 kept_key false false k c rest more free e s h = h
 
-keys_overridden : (k : Key) (cs own : List Component) → has_key k (without_overridden cs own) ≡ (has_key k cs && not (has_key k own))
+pub keys_overridden : (k : Key) (cs own : List Component) → has_key k (without_overridden cs own) ≡ (has_key k cs && not (has_key k own))
 keys_overridden k [] own = refl
 keys_overridden k (c ∷ cs) own =
     kept_key (same_key k c.key) (not (has_key c.key own)) k c (without_overridden cs own) (has_key k cs) (not (has_key k own)) refl

@@ -24,7 +24,7 @@ use Rattle.rn_assemble.specs.inside.Keyed.{IsNameNumber, key_at}
 use Rattle.rn_assemble.specs.inside.ReferenceOrder.{AreDefinedKeys, IsReferenceOrder}
 use Rattle.rn_assemble.proofs.Joining.DistinctNames.{joined_distinct}
 use Rattle.rn_assemble.proofs.Referring.DefinitionNumbers.{is_at, nothing, number_some}
-use Rattle.rn_assemble.proofs.Referring.FoundReferences.{map_contains}
+use Rattle.rn_assemble.proofs.Referring.ListMembers.{map_contains}
 use Rattle.rn_assemble.proofs.Referring.JoinedReferences.{definition_refers_outside}
 use Rattle.rn_assemble.proofs.Referring.KeyNumbers.{keyed_name, same_number}
 use Rattle.rn_assemble.proofs.Referring.MarkedPlaces.{different}

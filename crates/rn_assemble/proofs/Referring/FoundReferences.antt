@@ -1,225 +1,150 @@
--- The references of keys, by the names that their bodies refer to.
-use Rattle.std.proofs.Common.{◌≡◌, ⊎_elim, ℕ, zero, suc, ◌<◌, Bool, true, false, cond, List, [], ◌∷◌, ◌++◌, length, get_or, map, flat_map, filter, Option, Some, refl, sym, ap, ◌∙◌, subst, arith, Contains, eqb, ltb}
-use Rattle.std.specs.Rc.{rc_str_bytes}
-use Rattle.std.specs.Prelude.{◌↔◌, Decides, IsSome, slice_get}
+-- The names that the components of a key refer to, by its pieces.
+use Rattle.std.proofs.Common.{◌≡◌, ℕ, zero, suc, Bool, ◌+◌, ◌-◌, ◌<◌, ◌≤◌, true, false, List, [], ◌∷◌, length, get_or, take, drop, Some, refl, sym, ap, ◌∙◌, subst, arith, Contains}
+use Rattle.std.specs.Prelude.{◌↔◌, map, slice_get, slice_range}
 use Rattle.std.specs.List.{AllByRecursion}
-use Rattle.std.specs.List.Sorted.{IsStrictlySortedBy}
 use Rattle.std.specs.Option.{option_map_or}
-use Rattle.std.proofs.lemmas.Grind.{flat_map-append}
-use Rattle.std.proofs.lemmas.List.Elements.{Contains-append_left, Contains-append_right, Contains-append_cases}
-use Rattle.std.proofs.lemmas.Bool.{ltb-true, ltb-false, false≢true}
-use Rattle.std.proofs.lemmas.List.{length-map, get_or_default}
-use Rattle.rn_pattern.specs.Tree.{Tree, Trees}
-use Rattle.rn_text.specs.Texts.{Text, text_cmp}
-use Rattle.rn_pattern.specs.Matching.{definition_of}
-use Rattle.rn_pattern.specs.Graph.{row}
-use Rattle.rn_pattern.proofs.Ordered.InOrder.{contains_behind, contains_front, contains_cases}
-use Rattle.rn_syntax.specs.Tree.{Declaration, Pattern}
-use Rattle.rn_syntax.specs.Tree as t
-use Rattle.rn_assemble.specs.Resolve.{resolved_pattern}
-use Rattle.rn_assemble.specs.Components.{Key, name_key, same_key, Component}
-use Rattle.rn_assemble.specs.Combine.{bodies, of_key, method_node, joined_pattern, joined_grammar}
-use Rattle.rn_assemble.specs.inside.Keyed.{IsNameNumber, key_at}
-use Rattle.rn_assemble.specs.inside.Listed.{Live, IsBody, IsLive, ListsBy, components_in}
-use Rattle.rn_assemble.specs.inside.Referred.{AreBodiesAt, names_within, references, references_at, tree_of, within}
+use Rattle.std.specs.Rc.{rc_str_bytes}
+use Rattle.std.proofs.lemmas.List.{get_or-drop, get_or-take, length-drop, length-take, length-take-le}
+use Rattle.std.proofs.lemmas.Option.{get_or_from_slice_get, slice_get_read, slice_get_within}
+use Rattle.rn_pattern.proofs.Ordered.InOrder.{contained_each, each_contained}
+use Rattle.rn_pattern.specs.Reached.{RefersTo}
+use Rattle.rn_pattern.specs.References.{RefersOutside}
+use Rattle.rn_pattern.specs.Tree.{Tree}
 use Rattle.rn_pattern.specs.declared.references.Reach.{Reach}
-use Rattle.rn_pattern.specs.declared.references.Reach.TheVariants.{OutsideElements}
-use Rattle.rn_assemble.specs.declared.bodies.Body.{Body}
-use Rattle.rn_assemble.proofs.Combined.Combinations.{some_joined, joined_definition}
-use Rattle.rn_assemble.proofs.Expansion.LiveLists.{each_filtered}
-use Rattle.rn_assemble.proofs.Referring.KeyNumbers.{keyed_name, same_key-Decides}
-use Rattle.rn_assemble.proofs.Joining.KeyedBodies.{IsKeyed, of_key_at}
-use Rattle.rn_assemble.specs.inside.Trees.{TreeView}
+use Rattle.rn_pattern.specs.declared.references.Reach.TheVariants.{Everywhere, OutsideElements}
+use Rattle.rn_syntax.specs.Tree.{Declaration, Pattern}
+use Rattle.rn_syntax.specs.View.{boxed_view}
+use Rattle.rn_text.specs.Texts.{Text}
+use Rattle.rn_assemble.specs.Combine.{bodies, joined_pattern, of_key}
+use Rattle.rn_assemble.specs.Components.{Component, Key, NamedModule}
+use Rattle.rn_assemble.specs.Resolve.{resolved_pattern}
+use Rattle.rn_assemble.specs.declared.key_rows.WrittenComponent as code
+use Rattle.rn_assemble.specs.declared.pieces.Piece.{Piece}
+use Rattle.rn_assemble.specs.declared.segments.Segment.{Segment}
+use Rattle.rn_assemble.specs.inside.ContentsOf.{declarations_at}
+use Rattle.rn_assemble.specs.inside.Pieces.{ArePieces, IsPiece, component_in, piece_components}
+use Rattle.rn_assemble.specs.inside.Referred.{AreLiveMarks, marked_references, names_within, references}
+use Rattle.rn_assemble.proofs.Referring.JoinedReferences.{outside_of_joined, outside_to_joined, refers_of_joined, refers_to_joined}
+use Rattle.rn_assemble.proofs.Referring.ListMembers.{flat_contained, flat_contains, map_contained, map_contains}
+use Rattle.rn_assemble.proofs.Referring.MarkedReferences.{marked_contained, marked_contains}
+use Rattle.rn_assemble.proofs.Referring.WrittenReferences.{referred, referred_outside}
 
--- ---- elements of mapped and filtered lists
+-- ---- elements of a range
 
-pub map_contains : {X Y : Type 0} (f : X → Y) (xs : List X) (x : X) → Contains xs x → Contains (map f xs) (f x)
-map_contains f [] x c = absurd (omega (arith, c.1))
-map_contains f (y ∷ xs) x c = ⊎_elim (λ e. subst (λ z. Contains (f y ∷ map f xs) (f z)) e (contains_front (f y) (map f xs))) (λ k. contains_behind (f y) (f x) (map f xs) (map_contains f xs x k)) (contains_cases y x xs c)
+module _ {X : Type 0} (xs : List X) (a b : ℕ) (within : b ≤ length xs) where
+  size : a ≤ b → length (slice_range xs a b) ≡ b - a
+  size o = length-take-le (b - a) (drop a xs) (omega (arith, length-drop a xs, within, o))
 
-pub map_contained : {X Y : Type 0} (f : X → Y) (xs : List X) (y : Y) → Contains (map f xs) y → (x : X) × Contains xs x × (f x ≡ y)
-map_contained f [] y c = absurd (omega (arith, c.1))
-map_contained f (x ∷ xs) y c = ⊎_elim (λ e. (x, contains_front x xs, e)) (λ k. let r = map_contained f xs y k in (r.0, contains_behind x r.0 xs r.1, r.2)) (contains_cases (f x) y (map f xs) c)
+  read : (k : ℕ) (x : X) → k < b - a → get_or (slice_range xs a b) k x ≡ get_or xs (a + k) x
+  read k x l = get_or-take (b - a) (drop a xs) k x l ∙ get_or-drop a xs k x
 
-pub flat_contains : {X Y : Type 0} (f : X → List Y) (xs : List X) (x : X) (y : Y) → Contains xs x → Contains (f x) y → Contains (flat_map f xs) y
-flat_contains f [] x y c d = absurd (omega (arith, c.1))
-flat_contains f (z ∷ xs) x y c d = ⊎_elim (λ e. Contains-append_left (f z) (flat_map f xs) y (subst (λ w. Contains (f w) y) (sym e) d)) (λ k. Contains-append_right (f z) (flat_map f xs) y (flat_contains f xs x y k d)) (contains_cases z x xs c)
+  pub range_contains : (n : ℕ) (x : X) → slice_get xs n ≡ Some x → a ≤ n → n < b → Contains (slice_range xs a b) x
+  range_contains n x e h l =
+      let k = n - a in
+      let at : a + k ≡ n = omega (arith, h) in
+      (k, omega (arith, size (omega (arith, h, l)), h, l), read k x (omega (arith, h, l)) ∙ ap (λ i. get_or xs i x) at ∙ get_or_from_slice_get xs n x x e)
 
-pub flat_contained : {X Y : Type 0} (f : X → List Y) (xs : List X) (y : Y) → Contains (flat_map f xs) y → (x : X) × Contains xs x × Contains (f x) y
-flat_contained f [] y c = absurd (omega (arith, c.1))
-flat_contained f (x ∷ xs) y c = ⊎_elim (λ d. (x, contains_front x xs, d)) (λ k. let r = flat_contained f xs y k in (r.0, contains_behind x r.0 xs r.1, r.2)) (Contains-append_cases (f x) (flat_map f xs) y c)
+  pub range_contained : a ≤ b → (x : X) → Contains (slice_range xs a b) x → (n : ℕ) × (a ≤ n) × (n < b) × (slice_get xs n ≡ Some x)
+  range_contained o x (k, l, is) =
+      let m : k < b - a = omega (arith, l, size o) in
+      let n : a + k < b = omega (arith, m, o) in
+      (a + k, omega arith, n, slice_get_read xs (length xs) (a + k) x refl (omega (arith, n, within)) (sym is ∙ read k x m))
 
-at_each : {X : Type 0} (P : X → Type 0) (xs : List X) → AllByRecursion P xs → (x : X) → Contains xs x → P x
-at_each P [] h x c = absurd (omega (arith, c.1))
-at_each P (y ∷ xs) h x c = ⊎_elim (λ e. subst P e h.0) (λ k. at_each P xs h.1 x k) (contains_cases y x xs c)
+-- ---- the components of a key
 
-got : {X : Type 0} (xs : List X) (n : ℕ) → n < length xs → (d : X) → slice_get xs n ≡ Some (get_or xs n d)
-got [] n h d = absurd (omega arith)
-got (x ∷ xs) zero h d = refl
-got (x ∷ xs) (suc n) h d = got xs n (omega arith) d
+module _ (modules : List NamedModule) (list : List Segment) (k : Key) (row : List code.WrittenComponent) (cs : List Component) (pieces : List Piece) (are : ArePieces modules list k row cs pieces) where
+  -- some component of the key is that of the row, with its names resolved
+  pub record Resolves (w : code.WrittenComponent) (c : Component) : Type 0 where
+    pub inherited : Text
+    pub declarations : List Declaration
+    pub body_is : c.body ≡ resolved_pattern inherited declarations (boxed_view w.body)
 
--- ---- the names that bodies refer to
+  segment_of : (p : Piece) → p.segment < length list → (s : Segment) × (slice_get list p.segment ≡ Some s)
+  segment_of p l = some list p.segment l
+    where
+      some : (ss : List Segment) (n : ℕ) → n < length ss → (s : Segment) × (slice_get ss n ≡ Some s)
+      some [] n h = absurd (omega (arith, h))
+      some (s ∷ ss) zero h = (s, refl)
+      some (s ∷ ss) (suc n) h = some ss n (omega (arith, h))
 
--- those that f finds in a body, by its number
-abbrev pub names_at : TreeView → (Pattern → List Text) → List Body → ℕ → List Text
-names_at trees f bs n = f (tree_of trees bs n)
+  resolves : (s : Segment) (w : code.WrittenComponent) → Resolves w (component_in modules k s w)
+  resolves s w = record { inherited = rc_str_bytes s.context.inherited.now; declarations = declarations_at modules s.module; body_is = refl }
 
-module _ (meant : Reach) where
-  -- the names of a pattern's references that the reach takes in
-  abbrev pub named_in : Pattern → List Text
-  named_in p = names_within meant (references OutsideElements p)
+  of_piece : (p : Piece) (s : Segment) → slice_get list p.segment ≡ Some s → piece_components modules list k row p ≡ map (component_in modules k s) (slice_range row p.from p.to)
+  of_piece p s e = ap (λ o. option_map_or (λ (t : Segment). map (component_in modules k t) (slice_range row p.from p.to)) o []) e
 
-  pub names_of_bodies : (trees : TreeView) (bs : List Body) (ns : List ℕ) → names_within meant (flat_map (references_at trees bs) ns) ≡ flat_map (names_at trees named_in bs) ns
-  names_of_bodies trees bs [] = refl
-  names_of_bodies trees bs (n ∷ ns) =
-      flat_map-append (λ (r : Text × Reach). within meant r.1 r.0) (references_at trees bs n) (flat_map (references_at trees bs) ns)
-      ∙ ap (λ rest. names_at trees named_in bs n ++ rest) (names_of_bodies trees bs ns)
+  piece : (p : Piece) → Contains pieces p → IsPiece list row p
+  piece p c = contained_each (IsPiece list row) pieces are.each p c
 
--- ---- a live component and its body
+  -- what a piece has of the row is a component of the key
+  pub component_of : (p : Piece) (n : ℕ) (w : code.WrittenComponent) → Contains pieces p → p.from ≤ n → n < p.to → slice_get row n ≡ Some w → (c : Component) × Contains (of_key k cs) c × Resolves w c
+  component_of p n w h f t e =
+      let is = piece p h in
+      let s = segment_of p is.segment_within in
+      let c = component_in modules k s.0 w in
+      let there = map_contains (component_in modules k s.0) (slice_range row p.from p.to) w (range_contains row p.from p.to is.within n w e f t) in
+      let here = subst (λ ds. Contains ds c) (sym (of_piece p s.0 s.1)) there in
+      (c, subst (λ ds. Contains ds c) are.are (flat_contains (piece_components modules list k row) pieces p c h here), resolves s.0 w)
 
-pub some_body : (bs : List Body) (n : ℕ) → n < length bs → (b : Body) × (slice_get bs n ≡ Some b) × ((d : Body) → get_or bs n d ≡ b)
-some_body [] n h = absurd (omega arith)
-some_body (b ∷ bs) zero h = (b, refl, λ d. refl)
-some_body (b ∷ bs) (suc n) h = some_body bs n (omega arith)
+  -- where a component of the key stands in the row
+  pub record Written (c : Component) : Type 0 where
+    pub piece : Piece
+    pub among : Contains pieces piece
+    pub index : ℕ
+    pub from : piece.from ≤ index
+    pub to : index < piece.to
+    pub component : code.WrittenComponent
+    pub at : slice_get row index ≡ Some component
+    pub resolved : Resolves component c
 
-module _ (names : List Text) (trees : TreeView) (bs : List Body) (list : List ℕ) where
-  -- the body of a live component, with its number
-  pub record Shown (e : Live) : Type 0 where
-    pub number : ℕ
-    pub at : slice_get list e.place ≡ Some number
-    pub body : Body
-    pub is : slice_get bs number ≡ Some body
-    pub made : IsBody names trees body e.key e.component
+  pub written_of : (c : Component) → Contains (of_key k cs) c → Written c
+  written_of c h =
+      let p = flat_contained (piece_components modules list k row) pieces c (subst (λ ds. Contains ds c) (sym are.are) h) in
+      let is = piece p.0 p.1 in
+      let s = segment_of p.0 is.segment_within in
+      let w = map_contained (component_in modules k s.0) (slice_range row p.0.from p.0.to) c (subst (λ ds. Contains ds c) (of_piece p.0 s.0 s.1) p.2) in
+      let n = range_contained row p.0.from p.0.to is.within (omega (arith, is.ordered)) w.0 w.1 in
+      record { piece = p.0; among = p.1; index = n.0; from = n.1; to = n.2; component = w.0; at = n.3; resolved = subst (Resolves w.0) w.2 (resolves s.0 w.0) }
 
-  pub shown : (e : Live) → IsLive names trees bs list e → Shown e
-  shown e l =
-      let n = get_or list e.place 0 in
-      let b = some_body bs n l.body_within in
-      record { number = n; at = got list e.place l.within 0; body = b.0; is = b.1; made = subst (λ c. IsBody names trees c e.key e.component) (b.2 b.0) (l.is b.0) }
-
-  pub keyed : (e : Live) → IsLive names trees bs list e → IsKeyed names e
-  keyed e l =
-      let s = shown e l in
-      (s.made.numbered, ap (λ (c : Component). c.key) s.made.shown.2 ∙ ap (key_at names) s.made.key_is)
-
-  pub all_keyed : (live : List Live) → AllByRecursion (IsLive names trees bs list) live → AllByRecursion (IsKeyed names) live
-  all_keyed [] h = tt
-  all_keyed (e ∷ live) h = (keyed e h.0, all_keyed live h.1)
-
-  module _ (rows : List (List ℕ)) (live : List Live) (lists : ListsBy names trees bs list rows live) (sorted : IsStrictlySortedBy text_cmp names) where
-    abbrev cs : List Component
-    cs = components_in live
-
-    abbrev pub of_number : ℕ → List Live
-    of_number k = filter (λ (e : Live). eqb e.key k) live
-
-    pub bodies_are : (k : ℕ) → k < suc (length names) → bodies (key_at names k) cs ≡ map (λ (c : Component). c.body) (components_in (of_number k))
-    bodies_are k h = ap (map (λ (c : Component). c.body)) (of_key_at names sorted k h live (all_keyed live lists.are))
-
-    pub row_is : (k : ℕ) → k < suc (length names) → row rows k ≡ map (λ (e : Live). e.place) (of_number k)
-    row_is k h = lists.places k (omega (arith, h, lists.size))
-
-    live_at : (k : ℕ) (e : Live) → Contains (of_number k) e → IsLive names trees bs list e
-    live_at k e c = at_each (IsLive names trees bs list) (of_number k) (each_filtered (IsLive names trees bs list) (λ (f : Live). eqb f.key k) live lists.are) e c
-
-    -- names: what a written pattern refers to; R: what a resolved one does
-    module _ (f : Pattern → List Text) (R : Text → Tree → Type 0) (same : (i : Text) (ds : List Declaration) (y : Text) (p : Pattern) → Contains (f p) y ↔ R y (resolved_pattern i ds p))
-        (of_joined : (y : Text) (k : Key) → R y (joined_pattern cs k) → (p : Tree) × Contains (bodies k cs) p × R y p) (to_joined : (y : Text) (k : Key) (p : Tree) → Contains (bodies k cs) p → R y p → R y (joined_pattern cs k)) where
-      at_number : (n : ℕ) (b : Body) (y : Text) → slice_get bs n ≡ Some b → Contains (names_at trees f bs n) y ↔ Contains (f (trees b.component.key b.component.tree)) y
-      at_number n b y e = let is = ap (λ o. f (option_map_or (λ (c : Body). trees c.component.key c.component.tree) o t.empty)) e in (subst (λ xs. Contains xs y) is, subst (λ xs. Contains xs y) (sym is))
-
-      body_refers : (e : Live) (s : Shown e) (y : Text) → Contains (names_at trees f bs s.number) y ↔ R y e.component.body
-      body_refers e s y =
-          let n = at_number s.number s.body y s.is in
-          let ds = s.made.shown.0 in
-          let i = rc_str_bytes s.body.context.inherited.now in
-          let is = ap (λ (c : Component). c.body) s.made.shown.2 in
-          let r = same i ds y (trees s.body.component.key s.body.component.tree) in
-          ((λ c. subst (R y) (sym is) (r.0 (n.0 c))), λ h. n.1 (r.1 (subst (R y) is h)))
-
-      pub names_are : (k : ℕ) (ns : List ℕ) → k < suc (length names) → AreBodiesAt list (row rows k) ns → (y : Text) → Contains (flat_map (names_at trees f bs) ns) y ↔ R y (joined_pattern cs (key_at names k))
-      names_are k ns h a y = (into, back)
-        where
-          into : Contains (flat_map (names_at trees f bs) ns) y → R y (joined_pattern cs (key_at names k))
-          into c =
-              let n = flat_contained (names_at trees f bs) ns y c in
-              let p = a.only n.0 n.1 in
-              let e = map_contained (λ (e : Live). e.place) (of_number k) p.0 (subst (λ xs. Contains xs p.0) (row_is k h) p.1) in
-              let s = shown e.0 (live_at k e.0 e.1) in
-              let same : Some s.number ≡ Some n.0 = sym s.at ∙ ap (slice_get list) e.2 ∙ p.2 in
-              let number : s.number ≡ n.0 = cc in
-              to_joined y (key_at names k) e.0.component.body
-              (subst (λ ps. Contains ps e.0.component.body) (sym (bodies_are k h)) (map_contains (λ (c : Component). c.body) (components_in (of_number k)) e.0.component (map_contains (λ (e : Live). e.component) (of_number k) e.0 e.1)))
-              ((body_refers e.0 s y).0 (subst (λ m. Contains (names_at trees f bs m) y) (sym number) n.2))
-
-          back : R y (joined_pattern cs (key_at names k)) → Contains (flat_map (names_at trees f bs) ns) y
-          back r =
-              let p = of_joined y (key_at names k) r in
-              let c = map_contained (λ (c : Component). c.body) (components_in (of_number k)) p.0 (subst (λ ps. Contains ps p.0) (bodies_are k h) p.1) in
-              let e = map_contained (λ (e : Live). e.component) (of_number k) c.0 c.1 in
-              let s = shown e.0 (live_at k e.0 e.1) in
-              let n = a.all e.0.place s.number (subst (λ xs. Contains xs e.0.place) (sym (row_is k h)) (map_contains (λ (e : Live). e.place) (of_number k) e.0 e.1)) s.at in
-              flat_contains (names_at trees f bs) ns s.number y n ((body_refers e.0 s y).1 (subst (R y) (sym (ap (λ (d : Component). d.body) e.2 ∙ c.2)) p.2))
-
-    -- ---- names that are defined
-
-    -- a name that is defined is the name of a live component's key
-    pub has_live : (y : Text) → 0 < length (bodies (name_key y) cs) → (e : Live) × IsKeyed names e × (e.component.key ≡ name_key y)
-    has_live y h = at_key live lists.are h
+  -- meant: what is written; R: what a resolved pattern refers to
+  module _ (meant : Reach) (R : Text → Tree → Type 0) (same : (i : Text) (ds : List Declaration) (y : Text) (p : Pattern) → Contains (names_within meant (references OutsideElements p)) y ↔ R y (resolved_pattern i ds p))
+      (of_joined : (y : Text) → R y (joined_pattern cs k) → (p : Tree) × Contains (bodies k cs) p × R y p) (to_joined : (y : Text) (p : Tree) → Contains (bodies k cs) p → R y p → R y (joined_pattern cs k))
+      (marks : List Bool) (live : AreLiveMarks pieces (length row) marks) (y : Text) where
+    -- the names of the components that have a mark are those to which what is joined refers
+    pub names_are : Contains (names_within meant (marked_references marks row)) y ↔ R y (joined_pattern cs k)
+    names_are = (into, back)
       where
-        at_head : (b : Bool) (e : Live) (es : List Live) → same_key (name_key y) e.component.key ≡ b → IsLive names trees bs list e → (0 < length (bodies (name_key y) (components_in es)) → (g : Live) × IsKeyed names g × (g.component.key ≡ name_key y))
-            → 0 < length (map (λ (c : Component). c.body) (cond b (e.component ∷ of_key (name_key y) (components_in es)) (of_key (name_key y) (components_in es)))) → (g : Live) × IsKeyed names g × (g.component.key ≡ name_key y)
-        at_head true e es is l rest h = (e, keyed e l, sym ((same_key-Decides (name_key y) e.component.key).0 is))
-        at_head false e es is l rest h = rest h
+        into : Contains (names_within meant (marked_references marks row)) y → R y (joined_pattern cs k)
+        into c =
+            let m = marked_contained meant marks row y c in
+            let p = (live.marked m.index (slice_get_within row m.index m.component m.at)).0 m.marked in
+            let d = component_of p.0 m.index m.component p.1 p.2 p.3 m.at in
+            to_joined y d.0.body (map_contains (λ (e : Component). e.body) (of_key k cs) d.0 d.1)
+            (subst (R y) (sym d.2.body_is) ((same d.2.inherited d.2.declarations y (boxed_view m.component.body)).0 m.named))
 
-        at_key : (es : List Live) → AllByRecursion (IsLive names trees bs list) es → 0 < length (bodies (name_key y) (components_in es)) → (e : Live) × IsKeyed names e × (e.component.key ≡ name_key y)
-        at_key [] a h = absurd (omega arith)
-        at_key (e ∷ es) a h = at_head (same_key (name_key y) e.component.key) e es refl a.0 (at_key es a.1) h
+        back : R y (joined_pattern cs k) → Contains (names_within meant (marked_references marks row)) y
+        back r =
+            let p = of_joined y r in
+            let c = map_contained (λ (e : Component). e.body) (of_key k cs) p.0 p.1 in
+            let w = written_of c.0 c.1 in
+            let resolved = w.resolved in
+            let refers : R y (resolved_pattern resolved.inherited resolved.declarations (boxed_view w.component.body)) = subst (R y) (sym c.2 ∙ resolved.body_is) p.2 in
+            marked_contains meant marks row w.index w.component y w.at
+            ((live.marked w.index (slice_get_within row w.index w.component w.at)).1 (w.piece, w.among, w.from, w.to))
+            ((same resolved.inherited resolved.declarations y (boxed_view w.component.body)).1 refers)
 
-    abbrev IsDefined : Text → Type 0
-    IsDefined x = IsSome (definition_of (joined_grammar cs) x)
+  -- the names that the components of a key refer to anywhere, and outside elements
+  module _ (marks : List Bool) (live : AreLiveMarks pieces (length row) marks) (rs : List (Text × Reach)) (is : rs ≡ marked_references marks row) (y : Text) where
+    pub names_anywhere : Contains (names_within Everywhere rs) y ↔ RefersTo y (joined_pattern cs k)
+    names_anywhere =
+        subst (λ ts. Contains (names_within Everywhere ts) y ↔ RefersTo y (joined_pattern cs k)) (sym is)
+        (names_are Everywhere RefersTo (λ i ds z p. referred i ds z OutsideElements p) (λ z. refers_of_joined z cs k) (λ z. refers_to_joined z cs k) marks live y)
 
-    some_at : (over : Trees → Tree) (ps : List Tree) → IsSome (some_joined over ps) → 0 < length ps
-    some_at over [] h = absurd (false≢true h)
-    some_at over (p ∷ ps) h = omega arith
+    pub names_outside : Contains (names_within OutsideElements rs) y ↔ RefersOutside y (joined_pattern cs k)
+    names_outside =
+        subst (λ ts. Contains (names_within OutsideElements ts) y ↔ RefersOutside y (joined_pattern cs k)) (sym is)
+        (names_are OutsideElements RefersOutside referred_outside (λ z. outside_of_joined z cs k) (λ z. outside_to_joined z cs k) marks live y)
 
-    at_some : (over : Trees → Tree) (ps : List Tree) → 0 < length ps → IsSome (some_joined over ps)
-    at_some over [] h = absurd (omega arith)
-    at_some over (p ∷ ps) h = refl
-
-    pub has_bodies : (x : Text) → IsDefined x → 0 < length (bodies (name_key x) cs)
-    has_bodies x h = some_at (method_node (name_key x) cs) (bodies (name_key x) cs) (subst (λ (o : Option Tree). IsSome o) (joined_definition cs x) h)
-
-    bodies_defined : (x : Text) → 0 < length (bodies (name_key x) cs) → IsDefined x
-    bodies_defined x h = subst (λ (o : Option Tree). IsSome o) (sym (joined_definition cs x)) (at_some (method_node (name_key x) cs) (bodies (name_key x) cs) h)
-
-    same_count : (x : Text) (n : ℕ) → IsNameNumber names x n → length (row rows n) ≡ length (bodies (name_key x) cs)
-    same_count x n i =
-        let f = λ (e : Live). e.place in
-        let g = λ (e : Live). e.component in
-        let b = λ (c : Component). c.body in
-        ap length (row_is n i.within) ∙ length-map (of_number n) f ∙ sym (length-map (of_number n) g) ∙ sym (length-map (components_in (of_number n)) b)
-        ∙ sym (ap length (bodies_are n i.within)) ∙ ap (λ k. length (bodies k cs)) i.is
-
-    pub number_defined : (x : Text) (n size : ℕ) → IsNameNumber names x n → size ≡ length (row rows n) → Decides (ltb 0 size) (IsDefined x)
-    number_defined x n size i e = at (ltb 0 size) refl
-      where
-        count : size ≡ length (bodies (name_key x) cs)
-        count = e ∙ same_count x n i
-
-        at : (b : Bool) → ltb 0 size ≡ b → Decides b (IsDefined x)
-        at true is = ((λ _. bodies_defined x (omega (arith, ltb-true 0 size is, count))), (λ _. refl))
-        at false is = ((λ f. absurd (false≢true f)), (λ d. absurd (omega (arith, ltb-false 0 size is, has_bodies x d, count))))
-
-    name_contained : (k : ℕ) (x : Text) → k < suc (length names) → key_at names k ≡ name_key x → Contains names x
-    name_contained zero x h e = cc
-    name_contained (suc i) x h e =
-        let l : i < length names = omega arith in
-        (i, l, get_or_default names i x [] l ∙ keyed_name (get_or names i []) x e)
-
-    -- a name that is defined is one of the names
-    pub defined_name : (x : Text) → IsDefined x → Contains names x
-    defined_name x d = let e = has_live x (has_bodies x d) in name_contained e.0.key x e.1.0 (sym e.1.1 ∙ e.2)
-
-    pub none_defined : (x : Text) → ¬ Contains names x → Decides false (IsDefined x)
-    none_defined x n = ((λ f. absurd (false≢true f)), (λ d. absurd (n (defined_name x d))))
+  -- each piece is a range of the row
+  pub ranges : AllByRecursion (λ (p : Piece). (p.from ≤ p.to) × (p.to ≤ length row)) pieces
+  ranges = each_contained (λ (p : Piece). (p.from ≤ p.to) × (p.to ≤ length row)) pieces (λ p c. let h = piece p c in (omega (arith, h.ordered), h.within))

@@ -1,9 +1,10 @@
 -- The numbers of names, and of keys.
-use Rattle.std.proofs.Common.{◌≡◌, ℕ, zero, suc, ◌-◌, ◌<◌, inl, inr, List, [], length, get_or, refl, sym, ap, ◌∙◌, subst, arith, Less, Equal, eqb}
+use Rattle.std.proofs.Common.{◌≡◌, ℕ, zero, suc, ◌-◌, ◌<◌, inl, inr, List, [], length, get_or, refl, sym, ap, ◌∙◌, subst, arith, Contains, Less, Equal, eqb}
 use Rattle.std.specs.Prelude.{Decides}
 use Rattle.std.specs.List.Sorted.{IsStrictlySortedBy}
 use Rattle.std.proofs.lemmas.Bool.{cases_eq, cases_lt, eq-eqb, eqb-true, false≢true}
 use Rattle.std.proofs.lemmas.Bool.Decides.{same_from_decides}
+use Rattle.std.proofs.lemmas.List.{get_or_default}
 use Rattle.std.proofs.lemmas.Cmp.{nat_list_cmp_total, tied_itself}
 use Rattle.std.proofs.lemmas.Map.Keys.{Less-from_sorted}
 use Rattle.std.proofs.lemmas.Slice.Eq.{bytes_eq-Decides}
@@ -45,6 +46,11 @@ same_number names s x n m a b = elim (cases_eq n m) [
 
 -- ---- numbers of keys
 
+-- the name of a number
+pub number_name : (names : List Text) (n : ℕ) → 0 < n → key_at names n ≡ name_key (get_or names (n - 1) [])
+number_name names zero h = absurd (omega (arith, h))
+number_name names (suc i) h = ap (λ j. name_key (get_or names j [])) (let e : i ≡ suc i - 1 = omega arith in e)
+
 pub same_key-Decides : (k j : Key) → Decides (same_key k j) (k ≡ j)
 same_key-Decides start_key start_key = ((λ _. refl), (λ _. refl))
 same_key-Decides start_key (name_key y) = ((λ h. absurd (false≢true h)), (λ e. cc))
@@ -64,3 +70,10 @@ same_at names s (suc i) (suc j) h l e = same_number names s (get_or names i []) 
 pub same_key_at : (names : List Text) → IsStrictlySortedBy text_cmp names → (k j : ℕ) → k < suc (length names) → j < suc (length names) → same_key (key_at names k) (key_at names j) ≡ eqb j k
 same_key_at names s k j h l = same_from_decides _ (eqb j k) (same_key-Decides (key_at names k) (key_at names j))
     ((λ e. ap (key_at names) (sym (eqb-true j k e))), (λ e. eq-eqb j k (sym (same_at names s k j h l e))))
+
+-- a text that has a number is one of the names
+pub numbered_name : (names : List Text) (x : Text) (n : ℕ) → IsNameNumber names x n → Contains names x
+numbered_name names x zero a = absurd (omega (arith, a.above))
+numbered_name names x (suc i) a =
+    let l : i < length names = omega (arith, a.within) in
+    (i, l, get_or_default names i x [] l ∙ keyed_name (get_or names i []) x a.is)

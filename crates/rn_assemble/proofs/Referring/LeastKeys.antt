@@ -1,35 +1,16 @@
 -- The least key of which something holds, by its number.
-use Rattle.std.proofs.Common.{◌≡◌, ◌≢◌, ℕ, zero, suc, ◌<◌, Bool, true, false, ◌&&◌, ◌||◌, cond, inl, inr, List, [], ◌∷◌, length, get_or, Some, None, refl, sym, ap, ◌∙◌, subst, arith, Less, Equal}
-use Rattle.std.specs.Prelude.{count_by}
-use Rattle.std.specs.List.{AllByRecursion, list_any}
+use Rattle.std.proofs.Common.{◌≡◌, ℕ, zero, suc, ◌<◌, Bool, true, false, ◌||◌, cond, inl, inr, List, [], ◌∷◌, length, get_or, Some, None, refl, sym, ap, ◌∙◌, subst, arith, Less, Equal}
 use Rattle.std.specs.List.Sorted.{IsStrictlySortedBy}
 use Rattle.std.proofs.lemmas.Bool.{cases_eq, cases_lt, false≢true}
 use Rattle.std.proofs.lemmas.Cmp.{nat_list_cmp_total, tied_itself}
 use Rattle.std.proofs.lemmas.Map.Keys.{Less-from_sorted}
 use Rattle.rn_text.specs.Texts.{Text, text_cmp}
-use Rattle.rn_pattern.specs.Graph.{row}
 use Rattle.rn_pattern.proofs.Ordered.InOrder.{text_no_less}
-use Rattle.rn_assemble.specs.declared.bodies.Body.{Body}
-use Rattle.rn_assemble.specs.Components.{Component, Key, has_key, same_key, start_key}
-use Rattle.rn_assemble.specs.Combine.{IsMixed, IsPlainTwice, is_choice, is_interleave, is_plain, of_key}
+use Rattle.rn_assemble.specs.Components.{Component, Key, has_key, same_key}
+use Rattle.rn_assemble.specs.Combine.{of_key}
 use Rattle.rn_assemble.specs.inside.Keyed.{key_at}
 use Rattle.rn_assemble.specs.Least.{IsLeast, key_cmp}
-use Rattle.rn_assemble.specs.inside.Listed.{Live, ListsBy, components_in}
 use Rattle.rn_assemble.specs.inside.Methods.{IsLeastNumber}
-use Rattle.rn_assemble.proofs.Referring.FoundReferences.{all_keyed}
-use Rattle.rn_assemble.proofs.Joining.KeyedBodies.{IsKeyed}
-use Rattle.rn_assemble.proofs.Referring.KeyNumbers.{same_key-Decides}
-use Rattle.rn_assemble.proofs.Joining.UsedMethods.{row_size}
-use Rattle.rn_assemble.specs.inside.Trees.{TreeView}
-
--- a key of a live component has a number
-numbered_at : (names : List Text) (k : Key) (b : Bool) (c : Component) (rest : List Component) (n : ℕ) → n < suc (length names) → c.key ≡ key_at names n → same_key k c.key ≡ b → cond b (c ∷ rest) rest ≢ [] → (rest ≢ [] → (m : ℕ) × (m < suc (length names)) × (k ≡ key_at names m)) → (m : ℕ) × (m < suc (length names)) × (k ≡ key_at names m)
-numbered_at names k true c rest n l e s ne f = (n, l, (same_key-Decides k c.key).0 s ∙ e)
-numbered_at names k false c rest n l e s ne f = f ne
-
-pub numbered : (names : List Text) (live : List Live) → AllByRecursion (IsKeyed names) live → (k : Key) → of_key k (components_in live) ≢ [] → (m : ℕ) × (m < suc (length names)) × (k ≡ key_at names m)
-numbered names [] h k ne = absurd (ne refl)
-numbered names (e ∷ live) h k ne = numbered_at names k (same_key k e.component.key) e.component (of_key k (components_in live)) e.key h.0.0 h.0.1 refl ne (numbered names live h.1 k)
 
 -- the order of keys is that of their numbers
 pub less_number : (names : List Text) → IsStrictlySortedBy text_cmp names → (m n : ℕ) → m < suc (length names) → n < suc (length names) → key_cmp (key_at names m) (key_at names n) ≡ Less → m < n
@@ -71,20 +52,3 @@ lacks_at false c rest r f l = f l
 pub has_none : (k : Key) (ds : List Component) → length (of_key k ds) ≡ 0 → has_key k ds ≡ false
 has_none k [] l = refl
 has_none k (c ∷ ds) l = lacks_at (same_key k c.key) c (of_key k ds) (has_key k ds) (has_none k ds) l
-
-module _ {trees : TreeView} (names : List Text) (bodies : List Body) (list : List ℕ) (rows : List (List ℕ)) (live : List Live) (h : ListsBy names trees bodies list rows live) where
-  abbrev cs : List Component
-  cs = components_in live
-
-  pub plain_has : (k : Key) → IsPlainTwice k cs → (m : ℕ) × (m < suc (length names)) × (k ≡ key_at names m)
-  plain_has k p = numbered names live (all_keyed names trees bodies list live h.are) k (λ e. let none : 1 < count_by (λ (c : Component). is_plain c.method) [] = subst (λ ds. 1 < count_by (λ (c : Component). is_plain c.method) ds) e p in absurd (omega (arith, none)))
-
-  pub mixed_has : (k : Key) → IsMixed k cs → (m : ℕ) × (m < suc (length names)) × (k ≡ key_at names m)
-  mixed_has k p = numbered names live (all_keyed names trees bodies list live h.are) k (λ e. let none : false ≡ true = ap (λ ds. list_any (λ (c : Component). is_choice c.method) ds && list_any (λ (c : Component). is_interleave c.method) ds) (sym e) ∙ p in false≢true none)
-
-  module _ (o : IsStrictlySortedBy text_cmp names) where
-    pub start_there : 0 < length (row rows 0) → has_key start_key cs ≡ true
-    start_there l = let size = row_size names bodies list rows live h o 0 (omega arith) in has_some start_key cs (omega (arith, l, size))
-
-    pub no_start : length (row rows 0) ≡ 0 → has_key start_key cs ≡ false
-    no_start l = let size = row_size names bodies list rows live h o 0 (omega arith) in has_none start_key cs (omega (arith, l, size))

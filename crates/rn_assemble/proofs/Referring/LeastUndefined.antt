@@ -1,6 +1,8 @@
--- The least of names that are not defined, and the numbers of names, found one after the other.
-use Rattle.std.proofs.Common.{◌≡◌, ⊎_elim, ℕ, List, [], ◌∷◌, ◌++◌, Option, Some, None, refl, sym, ap, ◌∙◌, subst, arith, Contains, option_map, append_assoc, append-nil, ◌+◌, ◌<◌, length, map, take, get_or, Ordering, Less, Equal, Greater}
-use Rattle.std.specs.Prelude.{IfSome, IsSome, if◌then◌else◌}
+-- The least of names that have no mark, and the numbers of names, found one after the other.
+use Rattle.std.proofs.Common.{◌≡◌, ⊎_elim, ℕ, List, [], ◌∷◌, ◌++◌, Option, Some, None, refl, sym, ap, ◌∙◌, subst, arith, Contains, append_assoc, append-nil, ◌+◌, ◌<◌, length, map, take, get_or, Ordering, Less, Equal, Greater}
+use Rattle.std.specs.Prelude.{◌↔◌, Bool, true, false, IfSome, IsSome, if◌then◌else◌}
+use Rattle.std.specs.List.Sorted.{IsStrictlySortedBy}
+use Rattle.std.specs.Option.{option_map_or}
 use Rattle.std.specs.Ordering.{is_lt}
 use Rattle.std.proofs.lemmas.Bool.{false≢true}
 use Rattle.std.proofs.lemmas.Grind.{flat_map-append}
@@ -9,19 +11,15 @@ use Rattle.std.specs.Borrow.{Bor}
 use Rattle.std.proofs.lemmas.Cmp.{nat_list_cmp_total}
 use Rattle.std.proofs.lemmas.List.Elements.{Contains-append_left, Contains-push, Contains-push_cases}
 use Rattle.rn_text.specs.Texts.{Text, text_cmp}
-use Rattle.rn_pattern.specs.Matching.{Grammar, definition_of}
 use Rattle.rn_pattern.specs.Graph.{AllBelow}
 use Rattle.rn_pattern.proofs.Graphs.BuiltRows.{below_push}
-use Rattle.rn_assemble.specs.Combine.{joined_grammar}
-use Rattle.rn_assemble.specs.inside.Listed.{components_in}
 use Rattle.rn_assemble.specs.inside.Keyed.{IsFound, IsNameNumber}
-use Rattle.rn_assemble.specs.inside.Referred.{AreNumbers, IsLeastOf, KeepsLeast, lesser_text, names_within, number_within, reference_view, within}
+use Rattle.rn_assemble.specs.inside.Referred.{AreNumbers, IsLeastUnmarked, IsMarkedName, KeepsLeast, lesser_text, names_within, number_within, reference_view, within}
 use Rattle.rn_assemble.specs.inside.Views.{texts_of}
-use Rattle.rn_assemble.specs.declared.components.Components.{Components}
 use Rattle.rn_pattern.specs.declared.references.Reach.{Reach}
 use Rattle.rn_pattern.specs.declared.references.Reach.TheVariants.{Everywhere, OutsideElements}
 use Rattle.rn_assemble.specs.declared.references.Reference.{Reference}
-use Rattle.rn_assemble.proofs.Referring.KeyNumbers.{not_itself}
+use Rattle.rn_assemble.proofs.Referring.KeyNumbers.{not_itself, numbered_name, same_number}
 
 -- what is read where there is no text
 abbrev pub no_text : Bor (List ℕ)
@@ -52,16 +50,27 @@ pub not_none : {A : Type 0} (o : Option A) → IsSome o → ¬ (o ≡ None)
 not_none None h e = false≢true h
 not_none (Some x) h e = cc
 
-module _ (G : Grammar) where
-  pub least_still : (xs : List Text) (o : Option Text) (x : Text) → IsSome (definition_of G x) → IsLeastOf G xs o → IsLeastOf G (xs ++ x ∷ []) o
-  least_still xs None x d h = λ y c. ⊎_elim (λ k. h y k) (λ e. subst (λ z. IsSome (definition_of G z)) e d) (Contains-push_cases xs x y c)
+-- a name's number, found or not, tells whether the name has a mark
+pub marked_name : (names : List Text) → IsStrictlySortedBy text_cmp names → (marks : List Bool) (x : Text) (o : Option ℕ) → IsFound names x o → (option_map_or (λ k. get_or marks k false) o false ≡ true) ↔ IsMarkedName names marks x
+marked_name names s marks x None f = ((λ e. absurd (false≢true e)), λ m. absurd (f (numbered_name names x m.0 m.1)))
+marked_name names s marks x (Some k) f = ((λ e. (k, f, e)), λ m. ap (λ n. get_or marks n false) (same_number names s x k m.0 f m.1) ∙ m.2)
+
+module _ (names : List Text) (marks : List Bool) where
+  abbrev IsMarked : Text → Type 0
+  IsMarked = IsMarkedName names marks
+
+  abbrev IsLeast : List Text → Option Text → Type 0
+  IsLeast = IsLeastUnmarked names marks
+
+  least_still : (xs : List Text) (o : Option Text) (x : Text) → IsMarked x → IsLeast xs o → IsLeast (xs ++ x ∷ []) o
+  least_still xs None x d h = λ y c. ⊎_elim (λ k. h y k) (λ e. subst IsMarked e d) (Contains-push_cases xs x y c)
   least_still xs (Some z) x d h = (
     Contains-append_left xs (x ∷ []) z h.0,
     h.1,
-    λ y c n. ⊎_elim (λ k. h.2 y k n) (λ e. absurd (not_none (definition_of G y) (subst (λ w. IsSome (definition_of G w)) e d) n)) (Contains-push_cases xs x y c),
+    λ y c n. ⊎_elim (λ k. h.2 y k n) (λ e. absurd (n (subst IsMarked e d))) (Contains-push_cases xs x y c),
   )
 
-  lesser_at : (xs : List Text) (z x : Text) (r : Ordering) → text_cmp x z ≡ r → definition_of G x ≡ None → IsLeastOf G xs (Some z) → IsLeastOf G (xs ++ x ∷ []) (Some (if is_lt r then x else z))
+  lesser_at : (xs : List Text) (z x : Text) (r : Ordering) → text_cmp x z ≡ r → ¬ IsMarked x → IsLeast xs (Some z) → IsLeast (xs ++ x ∷ []) (Some (if is_lt r then x else z))
   lesser_at xs z x Less e n h = (
     Contains-push xs x,
     n,
@@ -78,13 +87,23 @@ module _ (G : Grammar) where
     λ y c m. ⊎_elim (λ k. h.2 y k m) (λ is l. let no : Less ≡ Greater = sym (subst (λ w. text_cmp w z ≡ Less) (sym is) l) ∙ e in cc) (Contains-push_cases xs x y c),
   )
 
-  pub least_more : (xs : List Text) (o : Option Text) (x : Text) → ¬ IsSome (definition_of G x) → IsLeastOf G xs o → IsLeastOf G (xs ++ x ∷ []) (Some (lesser_text o x))
+  least_more : (xs : List Text) (o : Option Text) (x : Text) → ¬ IsMarked x → IsLeast xs o → IsLeast (xs ++ x ∷ []) (Some (lesser_text o x))
   least_more xs None x d h = (
     Contains-push xs x,
-    is_none (definition_of G x) d,
-    λ y c m. ⊎_elim (λ k. absurd (not_none (definition_of G y) (h y k) m)) (λ is l. not_itself x (subst (λ w. text_cmp w x ≡ Less) (sym is) l)) (Contains-push_cases xs x y c),
+    d,
+    λ y c m. ⊎_elim (λ k. absurd (m (h y k))) (λ is l. not_itself x (subst (λ w. text_cmp w x ≡ Less) (sym is) l)) (Contains-push_cases xs x y c),
   )
-  least_more xs (Some z) x d h = lesser_at xs z x (text_cmp x z) refl (is_none (definition_of G x) d) h
+  least_more xs (Some z) x d h = lesser_at xs z x (text_cmp x z) refl d h
+
+  -- what keeps the least in turn keeps it in all
+  pub keeps_none : (u : Option Text) → KeepsLeast names marks [] u u
+  keeps_none u before h = subst (λ ts. IsLeast ts u) (sym (append-nil before)) h
+
+  pub keeps_marked : (xs : List Text) (u v : Option Text) (x : Text) → IsMarked x → KeepsLeast names marks xs u v → KeepsLeast names marks (xs ++ x ∷ []) u v
+  keeps_marked xs u v x m k before h = subst (λ ts. IsLeast ts v) (append_assoc before xs (x ∷ [])) (least_still (before ++ xs) v x m (k before h))
+
+  pub keeps_unmarked : (xs : List Text) (u v : Option Text) (x : Text) → ¬ IsMarked x → KeepsLeast names marks xs u v → KeepsLeast names marks (xs ++ x ∷ []) u (Some (lesser_text v x))
+  keeps_unmarked xs u v x m k before h = subst (λ ts. IsLeast ts (Some (lesser_text v x))) (append_assoc before xs (x ∷ [])) (least_more (before ++ xs) v x m (k before h))
 
 module _ (names texts : List Text) (numbers : List ℕ) (x : Text) (a : AreNumbers names texts numbers) where
   number_more : (k : ℕ) → IsNameNumber names x k → AreNumbers names (texts ++ x ∷ []) (numbers ++ k ∷ [])
@@ -122,10 +141,3 @@ below_within n ns meant r None h i = subst (AllBelow n) (sym (append-nil ns)) h
 below_within n ns Everywhere r (Some k) h i = below_push n ns k h i.1
 below_within n ns OutsideElements Everywhere (Some k) h i = subst (AllBelow n) (sym (append-nil ns)) h
 below_within n ns OutsideElements OutsideElements (Some k) h i = below_push n ns k h i.1
-
--- what keeps the least in turn keeps it in all
-pub keeps_none : (names : List Text) (x : Components) (u : Option (Bor (List ℕ))) → KeepsLeast names x [] u u
-keeps_none names x u trees live before l s h = subst (λ ts. IsLeastOf (joined_grammar (components_in live)) ts (option_map (λ (t : Bor (List ℕ)). t.now) u)) (sym (append-nil before)) h
-
-pub keeps_both : (names : List Text) (x : Components) (xs ys : List Text) (u v w : Option (Bor (List ℕ))) → KeepsLeast names x xs u v → KeepsLeast names x ys v w → KeepsLeast names x (xs ++ ys) u w
-keeps_both names x xs ys u v w a b trees live before l s h = subst (λ ts. IsLeastOf (joined_grammar (components_in live)) ts (option_map (λ (t : Bor (List ℕ)). t.now) w)) (append_assoc before xs ys) (b trees live (before ++ xs) l s (a trees live before l s h))

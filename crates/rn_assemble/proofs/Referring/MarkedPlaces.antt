@@ -14,7 +14,7 @@ pub different : (b : Bool) (x y : ℕ) → nat_eq x y ≡ b → ¬ (x ≡ y) →
 different true x y e h = absurd (h ((Decides-eqb x y).0 e))
 different false x y e h = refl
 
-none_same : (y : ℕ) (xs : List ℕ) → ((k : ℕ) → Contains xs k → k < y) → list_any (nat_eq y) xs ≡ false
+pub none_same : (y : ℕ) (xs : List ℕ) → ((k : ℕ) → Contains xs k → k < y) → list_any (nat_eq y) xs ≡ false
 none_same y [] h = refl
 none_same y (x ∷ xs) h =
     let l = h x (contains_front x xs) in

@@ -8,7 +8,7 @@ use Rattle.rn_assemble.specs.Components.{Key, Component, NamedModule, has_key, h
 use Rattle.rn_assemble.specs.Refusal.{item_lacks, items_lack, Lacks, Wants}
 use Rattle.rn_assemble.specs.Renamed.{IsRenaming}
 use Rattle.rn_assemble.specs.inside.RenamedModules.{renamed_module, renamed_modules}
-use Rattle.rn_assemble.proofs.Referring.FoundReferences.{map_contains, map_contained}
+use Rattle.rn_assemble.proofs.Referring.ListMembers.{map_contains, map_contained}
 use Rattle.rn_assemble.proofs.Renaming.AlikeFacts.{same_type}
 use Rattle.rn_assemble.proofs.Renaming.ResolvedPatterns.{renamed_declarations, handed_on-renamed}
 use Rattle.rn_assemble.proofs.Renaming.RenamedComponents.{modules_named-renamed, Includes-renamed, has_key-renamed, items-renamed, components_within-renamed, IncludesRenamed}

@@ -9,7 +9,7 @@ use Rattle.rn_pattern.specs.Matching.{Grammar, definition_of}
 use Rattle.rn_pattern.specs.Reached.{RefersTo, SomeRefersTo, IsReached, by_start, by_definition}
 use Rattle.rn_pattern.specs.References.{RefersOutside, SomeRefersOutside, IsUndefined, Reaches, by_one, by_more, IsRecursive}
 use Rattle.rn_assemble.specs.Renamed.{renamed_tree, renamed_trees, renamed_definition, renamed_grammar}
-use Rattle.rn_assemble.proofs.Referring.FoundReferences.{map_contains, map_contained}
+use Rattle.rn_assemble.proofs.Referring.ListMembers.{map_contains, map_contained}
 use Rattle.rn_assemble.proofs.Renaming.AlikeFacts.{either}
 
 -- ---- what a mapped option says

@@ -1,21 +1,10 @@
 -- What holds of each thing that a loop goes through, and things that are replaced one by one.
-use Rattle.std.proofs.Common.{◌≡◌, ℕ, ◌+◌, ◌<◌, ◌≤◌, List, [], ◌∷◌, ◌++◌, map, length, get_or, take, append-nil, refl, sym, ap, ◌∙◌, subst}
+use Rattle.std.proofs.Common.{◌≡◌, ◌+◌, List, [], ◌∷◌, ◌++◌, map, length, append-nil, refl, sym, ap, ◌∙◌, subst}
 use Rattle.std.specs.List.{AllByRecursion, AllZip}
-use Rattle.std.proofs.lemmas.List.{map-append, nil_from_length, take_all, take_more}
-use Rattle.rn_pattern.proofs.Ordered.Ascending.{each_behind, each_append}
+use Rattle.std.proofs.lemmas.List.{nil_from_length}
+use Rattle.rn_pattern.proofs.Ordered.Ascending.{each_behind}
 
 module _ {X Y : Type 0} (P : Y → Type 0) (f : X → Y) where
-  -- one more of those that a loop goes through by their places, and no more of them
-  pub each_more : (xs : List X) (i : ℕ) (x : X) → i < length xs → x ≡ get_or xs i x
-      → AllByRecursion P (map f (take i xs)) → P (f x) → AllByRecursion P (map f (take (i + 1) xs))
-  each_more xs i x l e h p =
-      let one_more : take (i + 1) xs ≡ take i xs ++ x ∷ [] = take_more xs i x l ∙ ap (λ y. take i xs ++ y ∷ []) (sym e) in
-      subst (AllByRecursion P) (sym (ap (map f) one_more ∙ map-append f (take i xs) (x ∷ [])))
-      (each_append P (map f (take i xs)) (f x ∷ []) h (p, tt))
-
-  pub each_seen : (xs : List X) (i : ℕ) → length xs ≤ i → AllByRecursion P (map f (take i xs)) → AllByRecursion P (map f xs)
-  each_seen xs i l h = subst (λ (ys : List X). AllByRecursion P (map f ys)) (take_all i xs l) h
-
   -- what holds of all that the things are seen as
   pub of_views : (xs : List X) → AllByRecursion P (map f xs) → AllByRecursion (λ x. P (f x)) xs
   of_views [] h = tt

@@ -1,14 +1,12 @@
 -- Where a renamed grammar of known URIs is well-formed, so is the grammar; and its definitions have distinct names if those of the other have.
-use Rattle.std.proofs.Common.{List, [], ◌∷◌, map, Option, subst}
+use Rattle.std.proofs.Common.{Option, subst}
 use Rattle.std.specs.Prelude.{IfSome}
-use Rattle.std.specs.List.{AllByRecursion}
 use Rattle.rn_text.specs.Texts.{Text}
 use Rattle.rn_pattern.specs.Tree.{Tree, Trees, datum_but, list, attribute, element, one_or_more, group, interleave, choice, no_trees, more_trees}
 use Rattle.rn_pattern.specs.Excepts.{HasExcepts, HaveExcepts}
 use Rattle.rn_pattern.specs.Matching.{Grammar, definition_of}
 use Rattle.rn_pattern.specs.NameRules.{KeepsNameRules}
-use Rattle.rn_assemble.specs.Combine.{AreDistinct, Differ}
-use Rattle.rn_assemble.specs.Renamed.{renamed_tree, renamed_trees, renamed_definition, renamed_grammar, HasKnownUris, IsOfKnownUris, IsRenaming}
+use Rattle.rn_assemble.specs.Renamed.{renamed_tree, renamed_trees, renamed_grammar, HasKnownUris, IsOfKnownUris, IsRenaming}
 use Rattle.rn_assemble.specs.WellFormed.{IsWellFormed}
 use Rattle.rn_assemble.proofs.Renaming.RenamedReferences.{definition_of-renamed, IsUndefined-renamed, IsRecursive-renamed}
 use Rattle.rn_assemble.proofs.Renaming.RenamedRules.{KeepsNameRules-renamed}
@@ -31,14 +29,6 @@ module _ (named : Text → Text) where
     have_excepts_before : (ps : Trees) → HaveExcepts (renamed_trees named ps) → HaveExcepts ps
     have_excepts_before no_trees h = h
     have_excepts_before (more_trees p ps) h = (has_excepts_before p h.0, have_excepts_before ps h.1)
-
-  differ_before : (d : Text × Tree) (ds : List (Text × Tree)) → AllByRecursion (Differ (renamed_definition named d)) (map (renamed_definition named) ds) → AllByRecursion (Differ d) ds
-  differ_before d [] h = tt
-  differ_before d (e ∷ ds) h = (h.0, differ_before d ds h.1)
-
-  pub distinct_before : (ds : List (Text × Tree)) → AreDistinct (map (renamed_definition named) ds) → AreDistinct ds
-  distinct_before [] h = tt
-  distinct_before (d ∷ ds) h = (differ_before d ds h.0, distinct_before ds h.1)
 
 module _ {named : Text → Text} {Known : Text → Type 0} (r : IsRenaming named Known) (G : Grammar) (known : IsOfKnownUris Known G) where
   each : (P Q : Tree → Type 0) → ((p : Tree) → HasKnownUris Known p → P (renamed_tree named p) → Q p) → (x : Text) → IfSome (definition_of (renamed_grammar named G) x) P → IfSome (definition_of G x) Q

@@ -9,7 +9,7 @@ use Rattle.rn_pattern.specs.Matching.{Grammar, definition_of}
 use Rattle.rn_assemble.specs.WritableTexts.{IsXml, IsWritable}
 use Rattle.rn_assemble.specs.WellFormed.{HasWritableTexts}
 use Rattle.rn_assemble.specs.Renamed.{renamed_tree, renamed_definition, renamed_grammar, HasKnownUris, IsOfKnownUris, IsRenaming}
-use Rattle.rn_assemble.proofs.Referring.FoundReferences.{map_contains}
+use Rattle.rn_assemble.proofs.Referring.ListMembers.{map_contains}
 use Rattle.rn_assemble.proofs.Renaming.RenamedReferences.{definition_of-renamed}
 use Rattle.rn_assemble.proofs.Renaming.WritablePatterns.{IsWritable-before}
 

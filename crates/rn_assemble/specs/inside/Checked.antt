@@ -1,28 +1,30 @@
 -- What is known of modules whose includes were followed, and what is found of their components.
-use Rattle.std.specs.Prelude.{ℕ, ◌≡◌, List, MatchOption, ⊤}
+use Rattle.std.specs.Prelude.{ℕ, ◌≡◌, ◌↔◌, List, MatchOption, ⊤}
 use Rattle.std.specs.List.Sorted.{IsStrictlySortedBy}
 use Rattle.std.specs.String.{string_bytes}
 use Rattle.rn_text.specs.Texts.{Text, text_cmp}
 use Rattle.rn_pattern.specs.Matching.{Grammar}
-use Rattle.rn_assemble.specs.declared.components.Components.{Components}
+use Rattle.rn_assemble.specs.declared.key_rows.KeyRows.{KeyRows}
+use Rattle.rn_assemble.specs.declared.segments.Segments.{Segments}
 use Rattle.rn_assemble.specs.declared.refusal.Refusal as code
 use Rattle.rn_assemble.specs.declared.refusal.Refusal.TheVariants as r
-use Rattle.rn_assemble.specs.Components.{NamedModule, set_components}
-use Rattle.rn_assemble.specs.inside.Expanded.{IsListed}
+use Rattle.rn_assemble.specs.Components.{Key, NamedModule, set_components}
+use Rattle.rn_assemble.specs.inside.Bringing.{IsLackIn}
 use Rattle.rn_assemble.specs.inside.Included.{AreIncluded}
 use Rattle.rn_assemble.specs.inside.Joining.{IsSound}
-use Rattle.rn_assemble.specs.inside.Lacking.{IsLeastLack}
-use Rattle.rn_assemble.specs.inside.Trees.{TreeView}
+use Rattle.rn_assemble.specs.inside.Rows.{AreRows}
+use Rattle.rn_assemble.specs.inside.Segments.{AreSegmentsOf}
 use Rattle.rn_assemble.specs.Refusal.{Refusal, override, IsFirstFor, Lacks, StandsFor, grammar_of}
 use Rattle.rn_assemble.specs.Refused.{key_view, refusal_view}
 
--- no include refuses the modules, and these are their components, by the numbers of these names and with these trees, and their least override of what isn't there
-pub record AreExpanded (modules : List NamedModule) (names : List Text) (trees : TreeView) (x : Components) : Type 0 where
+-- no include refuses the modules, and these are the rows of their components by the numbers of these names, and their segments; an include that overrides what it didn't bring in is a lack of its module
+pub record AreExpanded (modules : List NamedModule) (names : List Text) (rows : KeyRows) (x : Segments) : Type 0 where
   pub numbers : List ℕ
   pub included : AreIncluded modules numbers
   pub in_order : IsStrictlySortedBy text_cmp names
-  pub listed : IsListed names trees x (set_components modules)
-  pub lack : IsLeastLack modules names (Lacks modules) x.lack
+  pub rows_are : AreRows modules names rows.rows.items
+  pub segments_are : AreSegmentsOf modules x (set_components modules)
+  pub lacks : (y : Text) (k : Key) → IsLackIn modules x.list.items x.brought.items y k ↔ Lacks modules y k
 
 -- the first refusal that stands for the modules, or want of memory
 abbrev pub IsFirstOfModules : List NamedModule → code.Refusal → Type 0

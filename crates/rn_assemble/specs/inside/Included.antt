@@ -5,7 +5,7 @@ use Rattle.rn_pattern.specs.References.{Reaches}
 use Rattle.rn_pattern.specs.Graph.{AllBelow}
 use Rattle.rn_assemble.specs.Components.{NamedModule, Includes, instance_limit, instances, roots}
 use Rattle.rn_assemble.specs.Refusal.{Wants}
-use Rattle.rn_assemble.specs.inside.Expanded.{name_at}
+use Rattle.rn_assemble.specs.inside.ContentsOf.{name_at}
 
 -- each include names a module, no module comes back to itself, there are few enough instances, and the numbers are those of the roots
 pub record AreIncluded (modules : List NamedModule) (numbers : List ℕ) : Type 0 where

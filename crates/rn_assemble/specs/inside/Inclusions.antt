@@ -4,7 +4,7 @@ use Rattle.std.specs.List.{concat, list_any, range_with_len}
 use Rattle.rn_text.specs.Texts.{Text, text_cmp}
 use Rattle.rn_pattern.specs.Graph.{IsGraph, row}
 use Rattle.rn_assemble.specs.Components.{NamedModule, included_by, modules_named}
-use Rattle.rn_assemble.specs.inside.Expanded.{name_at}
+use Rattle.rn_assemble.specs.inside.ContentsOf.{name_at}
 use Rattle.rn_assemble.specs.Least.{IsLeast}
 
 -- the row of each module has the numbers of those that it includes, in the order of the text; none is missing

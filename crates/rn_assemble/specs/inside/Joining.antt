@@ -1,9 +1,7 @@
 -- The grammar to which components are joined, and what stands against it (RELAX NG 2001, 4.16, 4.17).
 use Rattle.std.specs.Prelude.{◌≡◌, ℕ, true, List, ⊤}
-use Rattle.std.specs.List.Sorted.{IsStrictlySortedBy}
-use Rattle.rn_text.specs.Texts.{Text, text_cmp}
+use Rattle.rn_text.specs.Texts.{Text}
 use Rattle.rn_pattern.specs.Matching.{Grammar}
-use Rattle.rn_assemble.specs.declared.components.Components.{Components}
 use Rattle.rn_assemble.specs.declared.grammar.Grammar as code
 use Rattle.rn_assemble.specs.declared.refusal.Refusal.{Refusal}
 use Rattle.rn_assemble.specs.declared.refusal.Refusal.TheVariants as r
@@ -12,9 +10,7 @@ use Rattle.rn_assemble.specs.Combine.{joined_grammar}
 use Rattle.rn_assemble.specs.GrammarView.{grammar_view}
 use Rattle.rn_assemble.specs.Least.{IsLeast, key_cmp}
 use Rattle.rn_assemble.specs.WellFormed.{HasWritableTexts, IsWellFormed}
-use Rattle.rn_assemble.specs.inside.Listed.{Live, Lists, components_in}
 use Rattle.rn_assemble.specs.inside.ReferenceOrder.{AreDefinedKeys}
-use Rattle.rn_assemble.specs.inside.Trees.{TreeView}
 use Rattle.rn_assemble.specs.Refusal.{BreaksNameRules}
 use Rattle.rn_assemble.specs.Refused.{key_view}
 use Rattle.rn_assemble.specs.SettlingOrder.{IsSettlingOrder}
@@ -27,10 +23,12 @@ IsSound G = IsWellFormed G × HasWritableTexts G
 abbrev pub AreSoundIfNamed : List Component → Type 0
 AreSoundIfNamed cs = ((k : Key) → ¬ BreaksNameRules cs k) → IsSound (joined_grammar cs)
 
--- the components are listed by the numbers of these names and have these trees, one of them is of the start, these keys are those that they define, and what they are joined to can be settled in this order, and is sound if its name classes are
-abbrev pub CanBeJoined : List Text → TreeView → Components → (defined order : List ℕ) → Type 0
-CanBeJoined names trees x defined order = (live : List Live) × Lists names trees x live × IsStrictlySortedBy text_cmp names × (has_key start_key (components_in live) ≡ true)
-    × AreDefinedKeys names (components_in live) defined × IsSettlingOrder (joined_grammar (components_in live)) order × AreSoundIfNamed (components_in live)
+-- the components have a start, these keys are those that they define, and what they are joined to can be settled in this order, and is sound if its name classes are
+pub record CanBeJoined (names : List Text) (cs : List Component) (defined order : List ℕ) : Type 0 where
+  pub start : has_key start_key cs ≡ true
+  pub defined_are : AreDefinedKeys names cs defined
+  pub settles : IsSettlingOrder (joined_grammar cs) order
+  pub sound : AreSoundIfNamed cs
 
 -- the components' grammar, in which no key breaks the restrictions on name classes
 pub record IsJoinedGrammar (cs : List Component) (g : code.Grammar) : Type 0 where

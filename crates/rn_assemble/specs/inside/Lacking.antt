@@ -1,11 +1,11 @@
 -- Overrides of what isn't there, in the instances of a module (RELAX NG 2001, 4.7).
-use Rattle.std.specs.Prelude.{◌≡◌, ◌⊎◌, ℕ, zero, suc, ◌<◌, true, List, [], ◌∷◌, ◌++◌, length, Option, Some, None, Contains}
+use Rattle.std.specs.Prelude.{◌≡◌, ◌⊎◌, ℕ, zero, suc, ◌<◌, ◌≤◌, true, List, [], ◌∷◌, ◌++◌, length, Option, Some, None, Contains}
 use Rattle.rn_text.specs.Texts.{Text, text_cmp}
 use Rattle.rn_syntax.specs.Tree as t
 use Rattle.rn_syntax.specs.Tree.{Declaration, Item, Items}
-use Rattle.rn_assemble.specs.declared.components.Lack.{Lack}
+use Rattle.rn_assemble.specs.declared.checks.Lack.{Lack}
 use Rattle.rn_assemble.specs.Components.{Key, NamedModule, handed_on, modules_named, components_within, instance_limit}
-use Rattle.rn_assemble.specs.inside.Expanded.{name_at}
+use Rattle.rn_assemble.specs.inside.ContentsOf.{name_at}
 use Rattle.rn_assemble.specs.inside.Keyed.{key_at}
 use Rattle.rn_assemble.specs.Least.{IsLeast, key_cmp}
 use Rattle.rn_assemble.specs.Refusal.{items_lack}
@@ -39,3 +39,8 @@ abbrev pub IsLeastLack : List NamedModule → List Text → (Text → Key → Ty
 IsLeastLack modules names P None = (y : Text) (k : Key) → ¬ P y k
 IsLeastLack modules names P (Some l) = (l.«module» < length modules) × (l.key < suc (length names))
     × IsLeast text_cmp (λ y. (k : Key) × P y k) (name_at modules l.«module») × IsLeast key_cmp (P (name_at modules l.«module»)) (key_at names l.key)
+
+-- the lack of the lesser module; of one module, the one that was met before
+abbrev pub IsLesser : (held : Option Lack) → (other l : Lack) → Type 0
+IsLesser None other l = l ≡ other
+IsLesser (Some held) other l = ((held.«module» ≤ other.«module») × (l ≡ held)) ⊎ ((other.«module» < held.«module») × (l ≡ other))

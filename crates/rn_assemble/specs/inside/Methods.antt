@@ -1,9 +1,8 @@
 -- Methods of combining, and keys of which something holds, by their numbers.
-use Rattle.std.specs.Prelude.{ℕ, suc, ◌≡◌, ◌<◌, ◌==◌, ◌&&◌, Bool, true, false, List, length, Option, Some, None}
+use Rattle.std.specs.Prelude.{ℕ, suc, ◌≡◌, ◌<◌, Bool, true, false, List, length, Option, Some, None}
 use Rattle.rn_text.specs.Texts.{Text}
 use Rattle.rn_syntax.specs.declared.token.Method.{Method}
 use Rattle.rn_syntax.specs.declared.token.Method.TheVariants as m
-use Rattle.rn_assemble.specs.declared.bodies.Body.{Body}
 use Rattle.rn_assemble.specs.Components.{Component, Key, has_key, start_key}
 use Rattle.rn_assemble.specs.Combine.{is_plain, is_choice, is_interleave, IsPlainTwice, IsMixed}
 use Rattle.rn_assemble.specs.declared.refusal.Refusal.{Refusal}
@@ -17,10 +16,6 @@ abbrev pub is_method : Method → Method → Bool
 is_method m.Plain = is_plain
 is_method m.Choice = is_choice
 is_method m.Interleave = is_interleave
-
--- whether a body is of the key of that number and uses the method
-abbrev pub is_body_by : ℕ → Method → Body → Bool
-is_body_by key method b = (b.component.key == key) && is_method method b.component.method
 
 -- the number of the least key of which P holds, or it holds of none
 abbrev pub IsLeastNumber : List Text → (Key → Type 0) → Option ℕ → Type 0

@@ -1,36 +1,27 @@
--- The patterns of keys and of bodies in the code, and the names in the order of their first components.
-use Rattle.std.specs.Prelude.{ℕ, suc, ◌≡◌, ◌+◌, ◌<◌, ◌⊎◌, min, nat_lt, true, false, if◌then◌else◌, List, length, map, filter, slice_get, slice_index_or, option_map, Option, Some, None, IfSome, Contains, ⊤}
+-- The patterns of keys in the code.
+use Rattle.std.specs.Prelude.{ℕ, zero, suc, ◌≡◌, min, Bool, true, false, List, [], ◌∷◌, ◌++◌, map, Option, Some, None, Contains, Vec, ⊤}
 use Rattle.std.specs.Option.{option_map_or}
 use Rattle.std.specs.List.{AllByRecursion}
 use Rattle.std.specs.declared.alloc.Global.{Global}
 use Rattle.std.specs.declared.rc.Rc.{Rc}
 use Rattle.rn_pattern.specs.NameRules.{KeepsNameRules}
 use Rattle.rn_pattern.specs.Tree.{Tree}
-use Rattle.rn_text.specs.Texts.{Text}
 use Rattle.rn_pattern.specs.View.{pattern_view, shared_view}
 use Rattle.rn_pattern.specs.declared.tree.Pattern.{Pattern}
-use Rattle.rn_assemble.specs.declared.bodies.Body.{Body}
-use Rattle.rn_assemble.specs.declared.combining.Combining.{Combining}
-use Rattle.rn_assemble.specs.declared.components.Components.{Components}
-use Rattle.rn_assemble.specs.declared.keys.Keys.{Keys}
+use Rattle.rn_assemble.specs.declared.combining.Joined.{Joined}
 use Rattle.rn_assemble.specs.declared.refusal.Refusal.{Refusal}
 use Rattle.rn_assemble.specs.declared.refusal.Refusal.TheVariants as r
-use Rattle.rn_assemble.specs.Components.{Component, Key, has_key, start_key}
+use Rattle.rn_assemble.specs.Components.{Component, Key}
 use Rattle.rn_assemble.specs.Combine.{joined_pattern}
-use Rattle.rn_assemble.specs.inside.Keyed.{key_at}
-use Rattle.rn_assemble.specs.inside.Listed.{IsBody, Live, OfTrees, components_in}
+use Rattle.rn_assemble.specs.Firsts.{joined_members}
 use Rattle.rn_assemble.specs.Refusal.{BreaksNameRules}
+use Rattle.rn_assemble.specs.Resolve.{resolved_pattern}
+use Rattle.rn_assemble.specs.declared.key_rows.WrittenComponent as code
+use Rattle.rn_syntax.specs.Tree.{Declaration}
+use Rattle.rn_syntax.specs.View.{boxed_view}
+use Rattle.rn_text.specs.Texts.{Text}
 use Rattle.rn_assemble.specs.Refused.{key_view}
-use Rattle.rn_assemble.specs.inside.Trees.{AgreeAt, TreeView}
-use Rattle.rn_assemble.specs.inside.Views.{names_of}
-
--- the tree stands for the component's body, which keeps the restrictions on name classes
-abbrev pub IsWellNamed : Component → Tree → Type 0
-IsWellNamed c p = (p ≡ c.body) × KeepsNameRules c.body
-
--- the trees stand for the components' bodies, which all keep the restrictions
-abbrev pub AreWellNamed : List Component → List Tree → Type 0
-AreWellNamed cs ps = (ps ≡ map (λ (c : Component). c.body) cs) × AllByRecursion (λ (c : Component). KeepsNameRules c.body) cs
+use Rattle.rn_assemble.specs.inside.Tied.{AreTied}
 
 -- the refusal of a key, for this reason, or want of memory
 abbrev pub IsMisnamedAs : Key → Type 0 → Refusal → Type 0
@@ -38,58 +29,44 @@ IsMisnamedAs k Why (r.NameClass j) = (key_view j ≡ k) × Why
 IsMisnamedAs k Why r.Memory = ⊤
 IsMisnamedAs k Why _ = ⊥
 
--- the refusal of the component's key, since its body breaks the restrictions on name classes
-abbrev pub IsMisnamedBy : Component → Refusal → Type 0
-IsMisnamedBy c = IsMisnamedAs c.key (¬ KeepsNameRules c.body)
-
 -- the refusal of the key, since one of its components breaks the restrictions on name classes
 abbrev pub IsMisnamedAt : List Component → Key → Refusal → Type 0
 IsMisnamedAt cs k = IsMisnamedAs k (BreaksNameRules cs k)
 
--- what is held, if anything is, stands for the component's body
-abbrev pub MayHold : Component → Option (Rc Pattern Global) → Type 0
-MayHold c held = IfSome held (λ p. IsWellNamed c (shared_view p))
-
--- a pattern that is held for a body's number stands for each component that the body is of
-abbrev pub AreShared : List Text → TreeView → List Body → List (Option (Rc Pattern Global)) → Type 0
-AreShared names trees bodies shared = (n key : ℕ) (b : Body) (c : Component) → slice_get bodies n ≡ Some b → IsBody names trees b key c → IfSome (slice_index_or shared n None) (λ p. IsWellNamed c (shared_view p))
-
--- a pattern that is held for the number of a body of x stands for each component that the body is of
-abbrev pub AreSharedBy : Keys → TreeView → Components → List (Option (Rc Pattern Global)) → Type 0
-AreSharedBy keys trees x shared = AreShared (names_of keys) trees x.bodies shared
-
--- the pattern of a key's components, where it has some
-abbrev pub pattern_of : List Component → Key → Option Tree
-pattern_of cs k = if has_key k cs then Some (joined_pattern cs k) else None
-
--- the pattern of a key that keeps the restrictions on name classes, where it has components
-abbrev pub IsKeptPattern : List Component → Key → Option Pattern → Type 0
-IsKeptPattern cs k p = (option_map pattern_view p ≡ pattern_of cs k) × ¬ BreaksNameRules cs k
-
--- P holds of the keys' names and the live components, for all trees that are these ones at the key, where the patterns of bodies are right
-abbrev pub WithShared : Keys → TreeView → Components → List (Option (Rc Pattern Global)) → ℕ → (TreeView → List Text → List Component → Type 0) → Type 0
-WithShared keys trees x shared key P = (view : TreeView) → AgreeAt view trees key
-    → OfTrees keys view x (λ names cs. key < length names + 1 → AreSharedBy keys view x shared → P view names cs)
+-- what is joined under a key that keeps the restrictions on name classes, with the first members of its list; none under one that breaks them
+abbrev pub IsJoined : List Component → Key → Option Joined → Type 0
+IsJoined cs k None = BreaksNameRules cs k
+IsJoined cs k (Some j) = (pattern_view j.pattern ≡ joined_pattern cs k) × (¬ BreaksNameRules cs k) × AreTied j.firsts.items (joined_members (joined_pattern cs k))
 
 -- the key or the noted one, whichever is less
 abbrev pub lesser : ℕ → Option ℕ → Option ℕ
 lesser key least = Some (option_map_or (min key) least key)
 
--- the pattern of a key; one that breaks the restrictions on name classes has none, and is noted where it is the least
-abbrev pub IsKeptOrNoted : List Text → List Component → ℕ → (old new : Option ℕ) → Option Pattern → Type 0
-IsKeptOrNoted names cs key old new (Some p) = IsKeptPattern cs (key_at names key) (Some p) × (new ≡ old)
-IsKeptOrNoted names cs key old new None = has_key (key_at names key) cs ≡ true → BreaksNameRules cs (key_at names key) × (new ≡ lesser key old)
+-- a pattern that keeps the restrictions on name classes; none where it breaks them
+abbrev pub IsResolved : Tree → Option Pattern → Type 0
+IsResolved t None = ¬ KeepsNameRules t
+IsResolved t (Some p) = (pattern_view p ≡ t) × KeepsNameRules t
 
--- P holds of the live components, for all trees that are these ones at the names' keys, where start keeps the restrictions on name classes, nothing is noted and the patterns of bodies are right
-abbrev pub AfterStart : Keys → TreeView → Components → Combining → (List Component → Type 0) → Type 0
-AfterStart keys trees x c P = (view : TreeView) → ((key : ℕ) → 0 < key → AgreeAt view trees key)
-    → OfTrees keys view x (λ names cs. ¬ BreaksNameRules cs start_key → c.least ≡ None → AreSharedBy keys view x c.shared.items → P cs)
+-- what a single pattern is joined to
+abbrev pub IsJoinedTo : Tree → Option Joined → Type 0
+IsJoinedTo t None = ¬ KeepsNameRules t
+IsJoinedTo t (Some j) = (pattern_view j.pattern ≡ t) × KeepsNameRules t × (j.firsts.items ≡ [])
 
--- the live components before a place
-abbrev pub before : ℕ → List Live → List Live
-before place live = filter (λ (e : Live). nat_lt e.place place) live
+-- patterns that all keep the restrictions; none where one breaks them
+abbrev pub AreResolved : List Tree → Option (Vec (Rc Pattern Global) Global) → Type 0
+AreResolved ts None = (t : Tree) × Contains ts t × ¬ KeepsNameRules t
+AreResolved ts (Some ps) = (map shared_view ps.items ≡ ts) × AllByRecursion KeepsNameRules ts
 
--- the number of the name whose first component is at the place
-abbrev pub IsFirstAt : List Text → List Live → ℕ → Option ℕ → Type 0
-IsFirstAt names live place None = (e : Live) → Contains live e → e.place ≡ place → (e.component.key ≡ start_key) ⊎ (has_key e.component.key (components_in (before place live)) ≡ true)
-IsFirstAt names live place (Some n) = (0 < n) × (n < suc (length names)) × ((e : Live) × Contains live e × (e.place ≡ place) × (e.component.key ≡ key_at names n)) × (has_key (key_at names n) (components_in (before place live)) ≡ false)
+-- the patterns of components with their names resolved
+abbrev pub resolved_bodies : Text → List Declaration → List code.WrittenComponent → List Tree
+resolved_bodies inherited ds ws = map (λ (w : code.WrittenComponent). resolved_pattern inherited ds (boxed_view w.body)) ws
+
+-- the patterns of these components were added behind the old ones, and all keep the restrictions; or one breaks them
+abbrev pub AddsResolved : Text → List Declaration → List code.WrittenComponent → (old new : List (Rc Pattern Global)) → Bool → Type 0
+AddsResolved inherited ds ws old new true = (map shared_view new ≡ map shared_view old ++ resolved_bodies inherited ds ws) × AllByRecursion KeepsNameRules (resolved_bodies inherited ds ws)
+AddsResolved inherited ds ws old new false = (t : Tree) × Contains (resolved_bodies inherited ds ws) t × ¬ KeepsNameRules t
+
+-- so many numbers, each one more than the one before it
+abbrev pub numbers_from : (begin count : ℕ) → List ℕ
+numbers_from begin zero = []
+numbers_from begin (suc n) = begin ∷ numbers_from (suc begin) n

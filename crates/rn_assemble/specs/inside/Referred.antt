@@ -1,14 +1,10 @@
 -- What components refer to, by the numbers of keys (RELAX NG 2001, 4.18 and 4.19).
-use Rattle.std.specs.Prelude.{ℕ, suc, ◌≡◌, ◌≢◌, ◌<◌, List, [], ◌∷◌, ◌++◌, length, slice_get, slice_index_or, slice_set, flat_map, option_map, Contains, Option, Some, None, IsSome, if◌then◌else◌, ⊤}
-use Rattle.std.specs.Borrow.{Bor}
-use Rattle.std.specs.List.Sorted.{IsStrictlySortedBy}
-use Rattle.std.specs.Option.{option_map_or}
+use Rattle.std.specs.Prelude.{ℕ, suc, ◌≡◌, ◌≢◌, ◌<◌, ◌≤◌, ◌↔◌, Bool, true, false, List, [], ◌∷◌, ◌++◌, length, slice_index_or, flat_map, Contains, Option, Some, None, if◌then◌else◌, ⊤}
 use Rattle.std.specs.Ordering.{is_lt}
 use Rattle.std.specs.declared.cmp.Ordering.TheVariants.{Less}
 use Rattle.std.specs.String.{string_bytes}
 use Rattle.rn_pattern.specs.Tree.{Tree}
 use Rattle.rn_text.specs.Texts.{Text, text_cmp}
-use Rattle.rn_pattern.specs.Matching.{Grammar, definition_of}
 use Rattle.rn_pattern.specs.Reached.{RefersTo}
 use Rattle.rn_pattern.specs.References.{RefersOutside, IsUndefined, IsRecursive}
 use Rattle.rn_syntax.specs.Tree as t
@@ -18,10 +14,9 @@ use Rattle.rn_assemble.specs.Components.{Component}
 use Rattle.rn_assemble.specs.Combine.{joined_pattern, joined_grammar}
 use Rattle.rn_assemble.specs.inside.Keyed.{IsNameNumber, key_at}
 use Rattle.rn_assemble.specs.Least.{IsLeast}
-use Rattle.rn_assemble.specs.inside.Listed.{Live, Lists, components_in}
-use Rattle.rn_assemble.specs.inside.Trees.{TreeView}
-use Rattle.rn_assemble.specs.declared.bodies.Body.{Body}
-use Rattle.rn_assemble.specs.declared.components.Components.{Components}
+use Rattle.rn_assemble.specs.declared.key_rows.WrittenComponent as code
+use Rattle.rn_assemble.specs.declared.pieces.Piece.{Piece}
+use Rattle.rn_syntax.specs.View.{boxed_view}
 use Rattle.rn_pattern.specs.declared.references.Reach.{Reach}
 use Rattle.rn_pattern.specs.declared.references.Reach.TheVariants.{Everywhere, OutsideElements}
 use Rattle.rn_assemble.specs.declared.references.Reference.{Reference}
@@ -82,44 +77,24 @@ IsLeastUndefined cs _ = ⊥
 abbrev pub reference_view : Reference → Text × Reach
 reference_view r = (r.name.now, r.reach)
 
--- the pattern of a body, by its number; `empty` where there is none
-abbrev pub tree_of : TreeView → List Body → ℕ → Pattern
-tree_of trees bodies n = option_map_or (λ (b : Body). trees b.component.key b.component.tree) (slice_get bodies n) t.empty
+-- the references of a component of the code
+abbrev pub references_at : code.WrittenComponent → List (Text × Reach)
+references_at w = references OutsideElements (boxed_view w.body)
 
--- the references of a body, by its number
-abbrev pub references_at : TreeView → List Body → ℕ → List (Text × Reach)
-references_at trees bodies n = references OutsideElements (tree_of trees bodies n)
+-- the references of the components of a row that have a mark
+abbrev pub marked_references : List Bool → List code.WrittenComponent → List (Text × Reach)
+marked_references (m ∷ ms) (w ∷ ws) = (if m then references_at w else []) ++ marked_references ms ws
+marked_references _ _ = []
 
--- the references of the bodies with these numbers
-abbrev pub references_in : TreeView → Components → List ℕ → List (Text × Reach)
-references_in trees x numbers = flat_map (references_at trees x.bodies) numbers
+-- the marks are those of the components that a piece has
+pub record AreLiveMarks (pieces : List Piece) (count : ℕ) (marks : List Bool) : Type 0 where
+  pub size : length marks ≡ count
+  pub marked : (n : ℕ) → n < count → (slice_index_or marks n false ≡ true) ↔ ((p : Piece) × Contains pieces p × (p.from ≤ n) × (n < p.to))
 
 -- the number of a name that is referred to, if it has one and the reach takes the reference in
 abbrev pub number_within : (meant narrowest : Reach) → Option ℕ → List ℕ
 number_within meant r None = []
 number_within meant r (Some k) = within meant r k
-
--- the numbers of the bodies at these places, in any order
-pub record AreBodiesAt (list places : List ℕ) (bodies : List ℕ) : Type 0 where
-  pub only : (n : ℕ) → Contains bodies n → (place : ℕ) × Contains places place × (slice_get list place ≡ Some n)
-  pub all : (place n : ℕ) → Contains places place → slice_get list place ≡ Some n → Contains bodies n
-
--- by number, the key under which a body was looked at last
-abbrev pub looked_under : List (Option ℕ) → ℕ → Option ℕ
-looked_under looked n = slice_index_or looked n None
-
--- no body was last looked at under this key
-abbrev pub IsFresh : ℕ → List (Option ℕ) → Type 0
-IsFresh key looked = (n : ℕ) → looked_under looked n ≢ Some key
-
--- no other key is looked at
-abbrev pub KeepsFresh : ℕ → (old new : List (Option ℕ)) → Type 0
-KeepsFresh key old new = (other : ℕ) → other ≢ key → IsFresh other old → IsFresh other new
-
--- the body was looked at under the key before, or it is now; one beyond the list leaves it as it is
-abbrev pub IsLooked : Option ℕ → ℕ → (old new : List (Option ℕ)) → Option ℕ → Type 0
-IsLooked body key old new None = (new ≡ old) × ((n : ℕ) → body ≡ Some n → looked_under old n ≡ Some key)
-IsLooked body key old new (Some n) = (body ≡ Some n) × (new ≡ slice_set old n (Some key))
 
 abbrev pub lesser_text : Option Text → Text → Text
 lesser_text None x = x
@@ -130,32 +105,23 @@ pub record AreNumbers (names texts : List Text) (numbers : List ℕ) : Type 0 wh
   pub only : (m : ℕ) → Contains numbers m → (x : Text) × Contains texts x × IsNameNumber names x m
   pub all : (x : Text) → Contains texts x → Contains names x → (m : ℕ) × IsNameNumber names x m × Contains numbers m
 
--- the number of the key's row, where the rows are those of these keys in their order; none where the key is not among them
-abbrev pub IsRowNumber : (keys : List ℕ) → ℕ → Option ℕ → Type 0
-IsRowNumber keys key None = ¬ Contains keys key
-IsRowNumber keys key (Some n) = (n < length keys) × (slice_index_or keys n 0 ≡ key)
+-- the text is a name whose number has a mark
+abbrev pub IsMarkedName : List Text → List Bool → Text → Type 0
+IsMarkedName names marks x = (n : ℕ) × IsNameNumber names x n × (slice_index_or marks n false ≡ true)
 
--- the keys are the numbers below count, each in its place
-pub record AreInOrder (count : ℕ) (keys : List ℕ) : Type 0 where
-  pub size : length keys ≡ count
-  pub each : (key : ℕ) → key < count → slice_index_or keys key 0 ≡ key
+-- the least of the texts that are no marked names, if there is one
+abbrev pub IsLeastUnmarked : List Text → List Bool → List Text → Option Text → Type 0
+IsLeastUnmarked names marks xs None = (x : Text) → Contains xs x → IsMarkedName names marks x
+IsLeastUnmarked names marks xs (Some y) = Contains xs y × (¬ IsMarkedName names marks y) × ((x : Text) → Contains xs x → ¬ IsMarkedName names marks x → text_cmp x y ≢ Less)
 
--- the rows of these keys in the order of the numbers below count; those of other numbers are empty
-pub record AreByKey (keys : List ℕ) (count : ℕ) (old new : List (List ℕ)) : Type 0 where
-  pub size : length new ≡ count
-  pub each : (key : ℕ) → key < count → (n : Option ℕ) × IsRowNumber keys key n × (row new key ≡ option_map_or (row old) n [])
+-- what was the least of some texts becomes the least of these too
+abbrev pub KeepsLeast : List Text → List Bool → List Text → (old new : Option Text) → Type 0
+KeepsLeast names marks xs old new = (before : List Text) → IsLeastUnmarked names marks before old → IsLeastUnmarked names marks (before ++ xs) new
 
--- the least of the names that have no definition
-abbrev pub IsLeastOf : Grammar → List Text → Option Text → Type 0
-IsLeastOf G xs None = (x : Text) → Contains xs x → IsSome (definition_of G x)
-IsLeastOf G xs (Some y) = Contains xs y × (definition_of G y ≡ None) × ((x : Text) → Contains xs x → definition_of G x ≡ None → text_cmp x y ≢ Less)
-
--- where the old one is the least undefined name of some, the new one is that of these and of more
-abbrev pub KeepsLeast : List Text → Components → (more : List Text) → (old new : Option (Bor (List ℕ))) → Type 0
-KeepsLeast names x more old new = (trees : TreeView) (live : List Live) (before : List Text) → Lists names trees x live
-    → IsStrictlySortedBy text_cmp names
-    → IsLeastOf (joined_grammar (components_in live)) before (option_map (λ (s : Bor (List ℕ)). s.now) old)
-    → IsLeastOf (joined_grammar (components_in live)) (before ++ more) (option_map (λ (s : Bor (List ℕ)). s.now) new)
+-- the numbers that have a mark are these
+pub record AreMarksOf (numbers : List ℕ) (count : ℕ) (marks : List Bool) : Type 0 where
+  pub size : length marks ≡ count
+  pub marked : (n : ℕ) → n < count → (slice_index_or marks n false ≡ true) ↔ Contains numbers n
 
 -- ---- what is found
 

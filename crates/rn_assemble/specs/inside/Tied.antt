@@ -1,5 +1,5 @@
 -- Members of a joined list that the code finds to be the same: first places, and the bodies that tell them (RELAX NG 2001, 4.17).
-use Rattle.std.specs.Prelude.{ℕ, ◌≡◌, ◌≤◌, ◌<◌, List, length, slice_get, slice_index_or, map, Option, Some, option_and_then, Vec}
+use Rattle.std.specs.Prelude.{ℕ, ◌≡◌, ◌<◌, List, length, slice_index_or, map, Vec}
 use Rattle.std.specs.declared.alloc.Global.{Global}
 use Rattle.std.specs.Coded.{×_prop, Π_prop, le_prop}
 use Rattle.std.specs.Ordering.{Ordering-set}
@@ -8,7 +8,6 @@ use Rattle.rn_pattern.specs.Graph.{row}
 use Rattle.rn_pattern.specs.Order.{tree_cmp}
 use Rattle.rn_pattern.specs.Tree.{Tree}
 use Rattle.rn_text.specs.Texts.{Text}
-use Rattle.rn_assemble.specs.declared.firsts.MetBody.{MetBody}
 use Rattle.rn_assemble.specs.Firsts.{AreFirstsBy, joined_members}
 
 -- first places whose members the order of patterns takes for equal; it tells different ones apart
@@ -29,15 +28,3 @@ AreTied-prop firsts members = Π_prop (λ i. Π_prop (λ j. Π_prop (λ p. Π_pr
 
 pub HaveTied-prop : (rows : List (List ℕ)) (ds : List (Text × Tree)) → IsProp (HaveTied rows ds)
 HaveTied-prop rows ds = Π_prop (λ n. Π_prop (λ d. Π_prop (λ l. AreTied-prop _ _)))
-
--- the number of the body of the component whose place is at the index
-abbrev pub body_of : List ℕ → List ℕ → ℕ → Option ℕ
-body_of list places i = option_and_then (slice_get list) (slice_get places i)
-
--- the component at the index j has the body of the one at i, and is not behind it
-abbrev pub IsFirst : List ℕ → List ℕ → ℕ → ℕ → Type 0
-IsFirst list places i j = (j ≤ i) × (body_of list places j ≡ body_of list places i)
-
--- a body that was met stands at the index in the list of the key
-abbrev pub AreMet : List ℕ → List (List ℕ) → List (Option MetBody) → Type 0
-AreMet list rows met = (n : ℕ) (m : MetBody) → slice_get met n ≡ Some (Some m) → body_of list (row rows m.key) m.index ≡ Some n

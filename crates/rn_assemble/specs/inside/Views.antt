@@ -1,23 +1,17 @@
 -- What values of the code stand for.
-use Rattle.std.specs.Prelude.{suc, ◌<◌, ◌≡◌, List, [], ◌∷◌, ◌++◌, length, map, Vec}
+use Rattle.std.specs.Prelude.{◌≡◌, List, [], ◌∷◌, ◌++◌, map, Vec}
 use Rattle.std.specs.declared.alloc.Global.{Global}
-use Rattle.std.specs.List.{AllByRecursion}
 use Rattle.std.specs.List.Sorted.{IsStrictlySortedBy}
 use Rattle.rn_text.specs.Texts.{Text, text_cmp}
 use Rattle.rn_syntax.specs.View.{declaration_view, items_view, module_view, prefix_view}
 use Rattle.rn_syntax.specs.declared.tree.Item.{Item}
 use Rattle.rn_assemble.specs.declared.named_modules.NamedModule as code_module
 use Rattle.rn_assemble.specs.declared.keys.Keys.{Keys}
-use Rattle.rn_assemble.specs.declared.contents.WrittenComponent as code_component
 use Rattle.rn_assemble.specs.declared.contents.Contents.{Contents}
 use Rattle.rn_assemble.specs.declared.contents.Include.{Include}
 use Rattle.rn_assemble.specs.Components.{NamedModule}
 pub use Rattle.rn_assemble.specs.inside.Keyed.{texts_of}
-use Rattle.rn_assemble.specs.inside.Keyed.{key_at}
-use Rattle.rn_assemble.specs.declared.trees.KeyedTree.{KeyedTree}
-use Rattle.rn_assemble.specs.declared.trees.Trees.{Trees}
-use Rattle.rn_assemble.specs.inside.Contained.{WrittenComponent, Inclusion}
-use Rattle.rn_assemble.specs.inside.Trees.{TreeView, trees_by}
+use Rattle.rn_assemble.specs.inside.Contained.{Inclusion}
 
 -- the names of the keys, in the order of their numbers
 abbrev pub names_of : Keys → List Text
@@ -49,29 +43,8 @@ AreNamed ms modules = map (λ (m : NamedModule). m.name) ms ≡ module_names mod
 abbrev pub AreInOrder : List code_module.NamedModule → Type 0
 AreInOrder modules = IsStrictlySortedBy text_cmp (module_names modules)
 
-abbrev pub written_view : List Text → TreeView → code_component.WrittenComponent → WrittenComponent
-written_view names trees c = record { key = key_at names c.key; method = c.method; pattern = trees c.key c.tree }
-
--- the number of the component's key is one of the keys' numbers
-abbrev pub IsNumbered : List Text → code_component.WrittenComponent → Type 0
-IsNumbered names c = c.key < suc (length names)
-
--- the written components were added behind the old ones, and their trees behind the old ones; whatever trees come later, they stand for these
-pub record Adds (names : List Text) (old new : List code_component.WrittenComponent) (before after : List KeyedTree) (added : List WrittenComponent) : Type 0 where
-  pub more : List code_component.WrittenComponent
-  pub grown : List KeyedTree
-  pub components : new ≡ old ++ more
-  pub trees : after ≡ before ++ grown
-  pub is : (later : List KeyedTree) → map (written_view names (trees_by (after ++ later))) more ≡ added
-  pub numbered : AllByRecursion (IsNumbered names) more
-
 abbrev pub inclusion_view : Include → Inclusion
 inclusion_view i = record { module_at = i.module; inherit = prefix_view i.inherit; first = i.from; end = i.to }
-
--- contents have got these components behind the old ones, and their trees stand behind the old ones
-abbrev pub AddsComponents : Keys → (old new : Contents) → (before after : Trees) → List WrittenComponent → Type 0
-AddsComponents keys old new before after added =
-    Adds (names_of keys) old.components.items new.components.items before.trees.items after.trees.items added
 
 -- contents have got these includes behind the old ones
 abbrev pub AddsIncludes : (old new : Contents) → List Inclusion → Type 0

@@ -9,7 +9,7 @@ use Rattle.rn_assemble.specs.inside.Contained.{AreFlat}
 use Rattle.rn_assemble.specs.inside.Views.{modules_view}
 use Rattle.rn_assemble.proofs.Answering.SetRefusal.{first_of_modules, set_kept}
 use Rattle.rn_assemble.proofs.Answering.ShortenedSets.{first_before, flat_before, kept_before, short_in_order, shortened_of}
-use Rattle.rn_assemble.proofs.Joining.KeyPatterns.{refused_by}
+use Rattle.rn_assemble.proofs.Answering.RefusedResults.{refused_at}
 use Rattle.rn_assemble.proofs.WellFormed.FlatModules.{modules_flat}
 use Rattle.rn_assemble.proofs.assembly.assemble_short.Goals as goal
 
@@ -38,7 +38,7 @@ returns-in_err-grammar c =
     let ms = modules_view c.in_ok-modules.modules.items in
     let short = modules_view c.in_ok-modules-2.modules.items in
     let q = c.in_err-grammar.field-0.0 in
-    refused_by _ (IsFirstRefusal s) c.from_residual-in_err-grammar.result q c.from_residual-in_err-grammar.ensures.1
+    refused_at _ (IsFirstRefusal s) c.from_residual-in_err-grammar.result q c.from_residual-in_err-grammar.ensures.1
     (first_of_modules s ms c.in_ok-modules.ensures.ok q (first_before es c.in_ok-uris.ensures.table ms short c.in_ok-modules-2.ensures.modules c.in_ok-modules-2.ensures.known q c.in_err-grammar.ensures))
 
 pub returns : goal.returns

@@ -1,77 +1,77 @@
-use Rattle.std.proofs.Common.{◌≡◌, ◌+◌, ◌<◌, ℕ, suc, List, length, arith, sym, subst}
-use Rattle.std.specs.List.{AllByRecursion}
-use Rattle.std.specs.List.Sorted.{IsStrictlySortedBy}
+use Rattle.std.proofs.Common.{◌≡◌, List, ℕ, sym, subst}
 use Rattle.std.proofs.lemmas.Result.{err_from_is_err_and}
-use Rattle.rn_text.specs.Texts.{text_cmp}
-use Rattle.rn_assemble.specs.inside.Listed.{Lists, Live, components_in}
-use Rattle.rn_assemble.specs.inside.Methods.{CanCombine, IsUncombined}
+use Rattle.rn_text.specs.Texts.{Text}
+use Rattle.rn_assemble.specs.Components.{Key, NamedModule, set_components}
+use Rattle.rn_assemble.specs.Refusal.{Lacks}
+use Rattle.rn_assemble.specs.inside.Checked.{AreExpanded}
+use Rattle.rn_assemble.specs.inside.Methods.{CanCombine}
 use Rattle.rn_assemble.specs.inside.ReferenceOrder.{AreDefinedKeys, IsReferenceOrder}
-use Rattle.rn_assemble.specs.inside.Sound.{HasSoundReferences, IsUnsound}
-use Rattle.rn_assemble.specs.inside.Trees.{TreeView}
-use Rattle.rn_assemble.specs.inside.Views.{names_of}
-use Rattle.rn_assemble.proofs.Answering.FirstRefusal.{uncombined_first, unsound_first}
-use Rattle.rn_assemble.proofs.Answering.CheckedModules.{at_set, can_be_joined, joined_or_first, passed_methods, passed_overrides}
-use Rattle.rn_assemble.proofs.Referring.DefinedOrder.{start_apart}
+use Rattle.rn_assemble.specs.inside.Sound.{HasSoundReferences}
+use Rattle.rn_assemble.specs.inside.Views.{AreNamed, names_of}
+use Rattle.rn_assemble.proofs.Answering.FirstRefusal.{lacking_first, uncombined_first, unsound_first}
+use Rattle.rn_assemble.proofs.Answering.CheckedModules.{brought_within, can_be_joined, joined_or_first, known_by, passed_includes, passed_methods, passed_overrides}
 use Rattle.rn_assemble.proofs.assembly.join_keys.Goals as goal
 use Rattle.rn_assemble.proofs.assembly.join_keys.Goals.{In_ok-defined}
 
-pub check_overrides-requires : goal.check_overrides-requires
-check_overrides-requires c =
-    let (ms, named, kept, h) = c.requires in
-    (ms, named, h.lack)
+pub check_overrides-requires-clause-named : goal.check_overrides-requires-clause-named
+check_overrides-requires-clause-named c =
+    let (ms, named, kept, h) = c.requires.known in
+    (ms, named, brought_within ms (names_of c.args.keys.now) c.args.rows c.args.segments.now h)
+
+pub returns-in_err-check_overrides : goal.returns-in_err-check_overrides
+returns-in_err-check_overrides c = λ ms named h.
+    let q = c.in_err-check_overrides.field-0.0 in
+    let p = err_from_is_err_and c.from_residual.result c.from_residual.ensures.1 in
+    let passed = passed_includes ms (names_of c.args.keys.now) c.args.rows c.args.segments.now h in
+    rw (p.1, p.2) (lacking_first ms passed q (c.in_err-check_overrides.ensures ms (set_components ms) named h.in_order h.rows_are h.segments_are h.lacks))
 
 pub returns-in_err-check_methods : goal.returns-in_err-check_methods
 returns-in_err-check_methods c = λ ms named h.
-    let names = names_of c.args.keys.now in
-    let x = c.args.components.now in
     let q = c.in_err-check_methods.field-0.0 in
     let p = err_from_is_err_and c.from_residual-in_err-check_methods.result c.from_residual-in_err-check_methods.ensures.1 in
-    let passed = passed_overrides ms names x h (c.in_ok-check_overrides.ensures ms named h.lack) in
-    rw (p.1, p.2) (uncombined_first ms passed q (at_set ms names x h (λ cs. IsUncombined cs q) (c.in_err-check_methods.ensures _)))
+    let never = c.in_ok-check_overrides.ensures ms (set_components ms) named h.in_order h.rows_are h.segments_are h.lacks in
+    let passed = passed_overrides ms (names_of c.args.keys.now) c.args.rows c.args.segments.now h never in
+    rw (p.1, p.2) (uncombined_first ms passed q (c.in_err-check_methods.ensures ms (set_components ms) h.in_order h.rows_are h.segments_are))
 
--- the keys of names that the components define, as a slice
-are_defined : (c : In_ok-defined) (keys : List ℕ) → keys ≡ c.in_ok-defined.defined.items → {trees : TreeView} (live : List Live) → Lists (names_of c.args.keys.now) trees c.args.components.now live → IsStrictlySortedBy text_cmp (names_of c.args.keys.now)
-    → AreDefinedKeys (names_of c.args.keys.now) (components_in live) keys
-are_defined c keys e live l s = subst (AreDefinedKeys (names_of c.args.keys.now) (components_in live)) (sym e) (c.in_ok-defined.ensures c.args.keys.now _ live l s)
+-- what was found of the modules up to their defined keys
+record AreChecked (c : In_ok-defined) (ms : List NamedModule) : Type 0 where
+  never : (y : Text) (k : Key) → ¬ Lacks ms y k
+  can : CanCombine (set_components ms)
+  defined : (keys : List ℕ) → keys ≡ c.in_ok-defined.defined.items → AreDefinedKeys (names_of c.args.keys.now) (set_components ms) keys
 
-pub check_references-requires : goal.check_references-requires
-check_references-requires c =
-    let here : In_ok-defined = assumption in
-    let (ms, named, kept, h) = c.requires in
-    let d = are_defined here c.deref.result.now c.deref.ensures.value h.listed.0 h.listed.1 h.in_order in
-    record { once = start_apart (names_of c.args.keys.now) (components_in h.listed.0) c.deref.result.now d; within = subst (λ n. AllByRecursion (λ k. k < n) c.deref.result.now) (let e : suc (length (names_of c.args.keys.now)) ≡ length (names_of c.args.keys.now) + 1 = omega arith in e) d.within }
+checked : (c : In_ok-defined) (ms : List NamedModule) → AreNamed ms c.args.modules.now → AreExpanded ms (names_of c.args.keys.now) c.args.rows c.args.segments.now → AreChecked c ms
+checked c ms named h = record {
+  never = c.in_ok-check_overrides.ensures ms (set_components ms) named h.in_order h.rows_are h.segments_are h.lacks;
+  can = c.in_ok-check_methods.ensures ms (set_components ms) h.in_order h.rows_are h.segments_are;
+  defined = λ keys e. subst (AreDefinedKeys (names_of c.args.keys.now) (set_components ms)) (sym e) (c.in_ok-defined.ensures ms (names_of c.args.keys.now) (set_components ms) h.in_order h.rows_are h.segments_are);
+}
 
 pub returns-in_err-reached : goal.returns-in_err-reached
 returns-in_err-reached c = λ ms named h.
     let here : In_ok-defined = assumption in
-    let names = names_of c.args.keys.now in
-    let x = c.args.components.now in
     let q = c.in_err-reached.field-0.0 in
     let p = err_from_is_err_and c.from_residual-in_err-reached.result c.from_residual-in_err-reached.ensures.1 in
-    let passed = passed_methods ms names x h (c.in_ok-check_overrides.ensures ms named h.lack) (at_set ms names x h CanCombine (c.in_ok-check_methods.ensures _)) in
-    rw (p.1, p.2) (unsound_first ms passed q (at_set ms names x h (λ cs. IsUnsound cs q) (λ live l s. c.in_err-reached.ensures live l s (are_defined here c.deref.result.now c.deref.ensures.value live l s))))
+    let found = checked here ms named h in
+    let passed = passed_methods ms (names_of c.args.keys.now) c.args.rows c.args.segments.now h found.never found.can in
+    rw (p.1, p.2) (unsound_first ms passed q (c.in_err-reached.ensures ms (set_components ms) h.in_order h.rows_are h.segments_are (found.defined c.deref.result.now c.deref.ensures.value)))
 
 pub joined_grammar-requires : goal.joined_grammar-requires
 joined_grammar-requires c =
     let here : In_ok-defined = assumption in
-    let (ms, named, kept, h) = c.requires in
+    let (ms, named, kept, h) = c.requires.known in
     let names = names_of c.args.keys.now in
-    let x = c.args.components.now in
-    let sound = at_set ms names x h HasSoundReferences (λ live l s. (c.in_ok-reached.ensures live l s (are_defined here c.deref.result.now c.deref.ensures.value live l s)).0) in
-    can_be_joined ms names x h (c.in_ok-check_overrides.ensures ms named h.lack) (at_set ms names x h CanCombine (c.in_ok-check_methods.ensures _)) sound kept c.deref-4.result.now c.in_ok-order.order.items
-    (λ live l s.
-    let cs = components_in live in
-    let defined = λ (keys : List ℕ) (e : keys ≡ c.in_ok-defined.defined.items). are_defined here keys e live l s in
-    let found = c.in_ok-reached.ensures live l s (defined c.deref.result.now c.deref.ensures.value) in
-    let reached = subst (IsReferenceOrder names cs) (sym c.deref-3.ensures.value) found.1 in
-    (defined c.deref-4.result.now c.deref-4.ensures.value, c.in_ok-order.ensures cs s (defined c.deref-2.result.now c.deref-2.ensures.value) reached))
+    let cs = set_components ms in
+    let found = checked here ms named h in
+    let sound = c.in_ok-reached.ensures ms cs h.in_order h.rows_are h.segments_are (found.defined c.deref.result.now c.deref.ensures.value) in
+    let reached = subst (IsReferenceOrder names cs) (sym c.deref-3.ensures.value) sound.1 in
+    let order = c.in_ok-order.ensures cs h.in_order (found.defined c.deref-2.result.now c.deref-2.ensures.value) reached in
+    (ms, cs, h.in_order, h.rows_are, h.segments_are, can_be_joined ms names c.args.rows c.args.segments.now h found.never found.can sound.0 kept c.deref-4.result.now c.in_ok-order.order.items (found.defined c.deref-4.result.now c.deref-4.ensures.value) order)
 
 pub returns : goal.returns
 returns c = λ ms named h.
     let here : In_ok-defined = assumption in
-    let names = names_of c.args.keys.now in
-    let x = c.args.components.now in
-    let can = at_set ms names x h CanCombine (c.in_ok-check_methods.ensures _) in
-    let sound = at_set ms names x h HasSoundReferences (λ live l s. (c.in_ok-reached.ensures live l s (are_defined here c.deref.result.now c.deref.ensures.value live l s)).0) in
-    joined_or_first ms names x h (c.in_ok-check_overrides.ensures ms named h.lack) can sound c.joined_grammar.result
-    (λ live l s. c.joined_grammar.ensures live l s (are_defined here c.deref-4.result.now c.deref-4.ensures.value live l s))
+    let cs = set_components ms in
+    let found = checked here ms named h in
+    let sound = c.in_ok-reached.ensures ms cs h.in_order h.rows_are h.segments_are (found.defined c.deref.result.now c.deref.ensures.value) in
+    joined_or_first ms (names_of c.args.keys.now) c.args.rows c.args.segments.now h found.never found.can sound.0 c.joined_grammar.result
+    (c.joined_grammar.ensures ms cs h.in_order h.rows_are h.segments_are (found.defined c.deref-4.result.now c.deref-4.ensures.value) found.can.start)

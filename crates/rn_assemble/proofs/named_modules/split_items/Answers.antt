@@ -3,7 +3,7 @@ use Rattle.std.specs.Vec.Iter.{into_iter_items}
 use Rattle.std.proofs.lemmas.List.{map-append}
 use Rattle.rn_assemble.specs.declared.named_modules.NamedModule.{NamedModule}
 use Rattle.rn_assemble.specs.inside.Views.{module_names, modules_view, named_module_view, with_items}
-use Rattle.rn_assemble.proofs.Expansion.GatheredItems.{nothing_left, with_both_more}
+use Rattle.rn_assemble.proofs.Gathering.GatheredItems.{nothing_left, with_both_more}
 use Rattle.rn_assemble.proofs.named_modules.split_items.Goals as goal
 
 -- when nothing is left, all modules were met

@@ -1,8 +1,7 @@
--- The references of the bodies so far.
-use Rattle.std.proofs.Common.{◌≡◌, flat_map, map, take}
-use Rattle.rn_assemble.specs.inside.Referred.{reference_view, references_at}
-use Rattle.rn_assemble.specs.inside.Trees.{trees_by}
+-- The references of the components so far, with those of the components left, are the references of all that have a mark.
+use Rattle.std.proofs.Common.{◌≡◌, ◌++◌, drop, map}
+use Rattle.rn_assemble.specs.inside.Referred.{AreLiveMarks, marked_references, reference_view}
 use Rattle.rn_assemble.proofs.references.references_in.Given as goal
 
-abbrev pub invariant-loop-number : goal.invariant-loop-number
-invariant-loop-number l = map reference_view l.found.items ≡ flat_map (references_at (trees_by l.trees.trees.items) l.components.bodies) (take l.number-index l.bodies)
+abbrev pub invariant-loop-index : goal.invariant-loop-index
+invariant-loop-index l = map reference_view l.found.items ++ marked_references (drop l.index l.is_live.items) (drop l.index l.row) ≡ marked_references l.is_live.items l.row

@@ -1,5 +1,5 @@
 -- The row has the keys of the references so far.
-use Rattle.std.proofs.Common.{◌+◌, length, map, take}
+use Rattle.std.proofs.Common.{◌+◌, length, map, option_map, take}
 use Rattle.rn_pattern.specs.Graph.{AllBelow}
 use Rattle.rn_assemble.specs.inside.Referred.{AreNumbers, KeepsLeast, names_within, reference_view}
 use Rattle.rn_assemble.specs.inside.Views.{names_of}
@@ -12,5 +12,5 @@ invariant-loop-reference l = record {
   everywhere : AreNumbers (names_of l.keys) (names_within Everywhere (map reference_view (take l.reference-index l.references))) l.row.everywhere.items;
   outside_within : AllBelow (length (names_of l.keys) + 1) l.row.outside.items;
   outside : AreNumbers (names_of l.keys) (names_within OutsideElements (map reference_view (take l.reference-index l.references))) l.row.outside.items;
-  least : KeepsLeast (names_of l.keys) l.components (names_within Everywhere (map reference_view (take l.reference-index l.references))) l.fn.undefined l.undefined;
+  least : KeepsLeast (names_of l.keys) l.is_defined (names_within Everywhere (map reference_view (take l.reference-index l.references))) (option_map (λ s. s.now) l.fn.undefined) (option_map (λ s. s.now) l.undefined);
 }

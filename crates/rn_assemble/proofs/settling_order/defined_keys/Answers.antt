@@ -1,32 +1,18 @@
-use Rattle.std.proofs.Common.{◌+◌, ◌≤◌, sym, ap, ◌∙◌, subst, arith}
-use Rattle.rn_assemble.specs.inside.Patterns.{IsFirstAt}
-use Rattle.rn_assemble.specs.inside.Views.{names_of}
-use Rattle.rn_assemble.proofs.Joining.DefinedKeys.{KeysBefore, keys_begin, keys_more, keys_past, keys_same}
+use Rattle.std.proofs.Common.{◌≡◌, List, map, take, sym, ap, ◌∙◌, subst, rules, arith, IsSortedByKey}
+use Rattle.std.proofs.lemmas.Fn.{always_returns_same}
+use Rattle.std.proofs.lemmas.List.{take_all}
+use Rattle.rn_assemble.specs.declared.settling_order.FirstPlace.{FirstPlace}
+use Rattle.rn_assemble.specs.inside.ReferenceOrder.{AreDefinedKeys}
+use Rattle.rn_assemble.proofs.Naming.FirstPlaces.{defined_in_order}
+use Rattle.rn_assemble.proofs.Naming.SortedPlaces.{place_cmp, place_of, sorted_in_order}
 use Rattle.rn_assemble.proofs.settling_order.defined_keys.Goals as goal
-use Rattle.rn_assemble.proofs.settling_order.defined_keys.Goals.{in-Some+in_ok-push, in_default}
-
-pub loop-place-init : goal.loop-place-init
-loop-place-init c = λ trees names live h s. subst (KeysBefore names live h.rises 0) (sym c.new-keys.ensures.items) (keys_begin names live h.rises)
-
-pub loop-place-preserved : goal.loop-place-preserved
-loop-place-preserved c = λ trees names live h s.
-    let place = c.loop-place.place in
-    let keys = c.loop-place.keys.items in
-    let first = c.first_at.ensures trees names live h s in
-    let before = c.loop-place.invariant trees names live h s in
-    elim c.match-first_at.branch [
-      | in-Some+in_ok-push w ↦
-          let more = keys_more names live h.rises place w.in-Some.key keys (subst (IsFirstAt names live place) w.in-Some.is first) before in
-          subst (KeysBefore names live h.rises (place + 1)) (sym (ap (λ v. v.items) w.keys-is ∙ w.in_ok-push.ensures.items)) more
-      | in_default w ↦
-          let same = keys_same names live h.rises place keys (subst (IsFirstAt names live place) w.in_default.is first) before in
-          subst (KeysBefore names live h.rises (place + 1)) (sym (ap (λ v. v.items) w.keys-is)) same
-    ]
 
 pub returns : goal.returns
-returns c = λ keys trees live h s.
-    let x = c.args.components.now in
-    let names = names_of keys in
-    let end = c.end_of_firsts-place-end.result in
-    let past : end ≤ c.loop-place.place = omega (arith, c.loop-place-test.false) in
-    keys_past names x.bodies x.list x.places.items live h s end c.end_of_firsts-place-end.ensures c.loop-place.place c.loop-place.keys.items past (c.loop-place.invariant trees names live h s)
+returns c = λ modules names cs s rows segments.
+    let x = c.args.segments.now in
+    let places = c.in_ok-places.places.items in
+    let ps = c.sort_by_key.new.self.items in
+    let up : IsSortedByKey place_of place_cmp ps = c.in_ok-sort_by_key.ensures.sorted place_of (always_returns_same _ (λ a r. r ≡ place_of a.0.now) _ (λ a r f' k. search rules)) in
+    let found = defined_in_order modules names s x cs rows.names_are segments places ps (c.in_ok-places.ensures modules names cs s rows segments) c.in_ok-sort_by_key.ensures.permutation (sorted_in_order ps up) in
+    let whole = take_all c.loop-place.place-index c.deref-place-items.result.now (omega (arith, c.loop-place-test.false)) ∙ c.deref-place-items.ensures.value in
+    subst (AreDefinedKeys names cs) (sym (c.loop-place.invariant ∙ ap (map (λ (p : FirstPlace). p.key)) whole)) found

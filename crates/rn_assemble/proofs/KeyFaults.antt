@@ -1,0 +1,5 @@
+pub mod KeysOfPieces
+pub mod KnownRows
+pub mod LeastLacks
+pub mod OverrideStands
+pub mod PieceMethods
