@@ -4,32 +4,18 @@
 #![tactic(auto)]
 
 pub mod assembly;
-mod checks;
-mod combining;
-mod constants;
-mod contents;
-mod context;
-mod declared_uris;
+mod by_key;
 pub mod grammar;
-mod inclusion;
-mod instances;
-mod key_rows;
-mod keys;
-mod named_modules;
-mod nodes;
-mod pieces;
-mod references;
+mod including;
+mod reading;
 pub mod refusal;
-mod resolution;
-mod seeds;
-mod segments;
-mod settling_order;
+mod resolving;
 pub mod short_uris;
 mod shortening;
 
 pub use assembly::{ShortGrammar, assemble, assemble_short};
 pub use grammar::{Definitions, Grammar};
-pub use instances::INSTANCE_LIMIT;
+pub use including::instances::INSTANCE_LIMIT;
 pub use refusal::{Key, Refusal};
 pub use short_uris::{MAX_KEPT_URI, ShortUris};
 

@@ -10,7 +10,7 @@ ghost use Rattle.rn_assemble.specs.inside.GatheredUris.{AreGathered, GathersUris
 ghost use Rattle.rn_assemble.specs.inside.RenamedModules.{DeclareKnown, renamed_modules};
 ghost use Rattle.rn_assemble.specs.inside.Views.{modules_view, named_module_view};
 
-use crate::named_modules::NamedModule;
+use crate::reading::named_modules::NamedModule;
 use crate::short_uris::{MAX_KEPT_URI, ShortUris};
 use rn_pattern::XMLNS_URI;
 use rn_syntax::{Declaration, Module, Uri, XML_URI, XSD_URI};

@@ -8,10 +8,10 @@ use Rattle.std.proofs.lemmas.Result.{MatchResult-weaker}
 use Rattle.rn_text.specs.Texts.{Text, text_cmp}
 use Rattle.rn_pattern.proofs.Ordered.InOrder.{contained_each}
 use Rattle.rn_assemble.specs.declared.grammar.Grammar.{Grammar}
-use Rattle.rn_assemble.specs.declared.key_rows.KeyRows.{KeyRows}
+use Rattle.rn_assemble.specs.declared.reading.key_rows.KeyRows.{KeyRows}
 use Rattle.rn_assemble.specs.declared.refusal.Refusal as code
-use Rattle.rn_assemble.specs.declared.segments.Brought.{Brought}
-use Rattle.rn_assemble.specs.declared.segments.Segments.{Segments}
+use Rattle.rn_assemble.specs.declared.including.segments.Brought.{Brought}
+use Rattle.rn_assemble.specs.declared.including.segments.Segments.{Segments}
 use Rattle.rn_assemble.specs.inside.Bringing.{IsLackIn}
 use Rattle.rn_assemble.specs.inside.Checked.{AreExpanded, IsGrammarOf, IsFirstOfModules, KeepsWellFormed}
 use Rattle.rn_assemble.specs.Components.{Component, Key, NamedModule, components, roots, set_components}

@@ -8,7 +8,7 @@ use Rattle.rn_pattern.proofs.Ordered.InOrder.{contains_cases, contained_each, te
 use Rattle.rn_modset.specs.Contributions.{Member}
 use Rattle.rn_modset.specs.Modules.{Module, AreEffective, NamesRise, module_cmp, module_of, modules_of}
 use Rattle.rn_syntax.specs.declared.fault.FaultKind.{FaultKind}
-use Rattle.rn_assemble.specs.declared.named_modules.NamedModule as code_module
+use Rattle.rn_assemble.specs.declared.reading.named_modules.NamedModule as code_module
 use Rattle.rn_assemble.specs.declared.refusal.Refusal as code
 use Rattle.rn_assemble.specs.Components.{NamedModule}
 use Rattle.rn_assemble.specs.Least.{IsLeast}

@@ -6,7 +6,7 @@ use Rattle.std.specs.List.Sorted.{IsStrictlySortedBy}
 use Rattle.rn_text.specs.Texts.{Text, text_cmp}
 use Rattle.rn_pattern.specs.Matching.{Grammar}
 use Rattle.rn_modset.specs.Contributions.{Member}
-use Rattle.rn_assemble.specs.declared.named_modules.NamedModule as code_module
+use Rattle.rn_assemble.specs.declared.reading.named_modules.NamedModule as code_module
 use Rattle.rn_assemble.specs.declared.refusal.Refusal as code
 use Rattle.rn_assemble.specs.declared.refusal.Refusal.TheVariants as r
 use Rattle.rn_assemble.specs.Components.{NamedModule}

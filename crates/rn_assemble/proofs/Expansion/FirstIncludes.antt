@@ -10,7 +10,7 @@ use Rattle.rn_pattern.specs.Ranks.{HasNoLoop, IsFirstLoop}
 use Rattle.rn_pattern.proofs.Ordered.InOrder.{text_no_less}
 use Rattle.rn_pattern.proofs.Graphs.BuiltRows.{AreRows, is_graph, no_rows, row_before, row_behind, rows_pushed}
 use Rattle.rn_syntax.specs.View.{module_view}
-use Rattle.rn_assemble.specs.declared.named_modules.NamedModule as code
+use Rattle.rn_assemble.specs.declared.reading.named_modules.NamedModule as code
 use Rattle.rn_assemble.specs.Components.{Includes, NamedModule, instance_limit, instances_within, roots, included_by}
 use Rattle.rn_syntax.specs.Tree.{includes}
 use Rattle.rn_assemble.specs.inside.ContentsOf.{name_at}

@@ -9,8 +9,8 @@ use Rattle.rn_text.specs.Texts.{Text}
 use Rattle.rn_syntax.specs.Tree as t
 use Rattle.rn_syntax.specs.Tree.{Item, Items, item_includes, includes}
 use Rattle.rn_assemble.specs.Components.{NamedModule}
-use Rattle.rn_assemble.specs.declared.contents.Contents.{Contents}
-use Rattle.rn_assemble.specs.declared.contents.Include.{Include}
+use Rattle.rn_assemble.specs.declared.reading.contents.Contents.{Contents}
+use Rattle.rn_assemble.specs.declared.reading.contents.Include.{Include}
 use Rattle.rn_assemble.specs.inside.Bringing.{CanList}
 use Rattle.rn_assemble.specs.inside.Contained.{AreFlat, IsFlat, Inclusion, inclusions, item_inclusions, item_written_components, place_in, written_components}
 use Rattle.rn_assemble.specs.inside.ContentsOf.{AreApart, HasOrderedIncludes, IsContents}

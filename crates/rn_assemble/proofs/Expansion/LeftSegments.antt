@@ -9,8 +9,8 @@ use Rattle.std.proofs.lemmas.List.Folds.{list_any-append}
 use Rattle.rn_text.specs.Texts.{Text}
 use Rattle.rn_syntax.specs.Tree.{Declaration}
 use Rattle.rn_assemble.specs.Components.{Component, Key, NamedModule, has_key, same_key, without_overridden}
-use Rattle.rn_assemble.specs.declared.segments.Brought.{Brought}
-use Rattle.rn_assemble.specs.declared.segments.Segment.{Segment}
+use Rattle.rn_assemble.specs.declared.including.segments.Brought.{Brought}
+use Rattle.rn_assemble.specs.declared.including.segments.Segment.{Segment}
 use Rattle.rn_assemble.specs.inside.Contained.{WrittenComponent}
 use Rattle.rn_assemble.specs.inside.ContentsOf.{resolved_component}
 use Rattle.rn_assemble.specs.inside.Segments.{covers, is_overridden, left_from, overrides, segment_components, some_has_key}

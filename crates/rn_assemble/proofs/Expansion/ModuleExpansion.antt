@@ -10,10 +10,10 @@ use Rattle.rn_text.specs.Texts.{Text}
 use Rattle.rn_pattern.proofs.Ordered.Ascending.{each_append}
 use Rattle.rn_syntax.specs.Tree as t
 use Rattle.rn_syntax.specs.Tree.{Declaration}
-use Rattle.rn_assemble.specs.declared.contents.Contents.{Contents}
-use Rattle.rn_assemble.specs.declared.contents.Include.{Include}
-use Rattle.rn_assemble.specs.declared.context.Context.{Context}
-use Rattle.rn_assemble.specs.declared.segments.Segments.{Segments}
+use Rattle.rn_assemble.specs.declared.reading.contents.Contents.{Contents}
+use Rattle.rn_assemble.specs.declared.reading.contents.Include.{Include}
+use Rattle.rn_assemble.specs.declared.resolving.context.Context.{Context}
+use Rattle.rn_assemble.specs.declared.including.segments.Segments.{Segments}
 use Rattle.rn_assemble.specs.Components.{Component, Key, NamedModule, components_within, has_key, without_overridden}
 use Rattle.rn_assemble.specs.inside.Bringing.{Brings, CanAdd, CanBring, CanList, InclusionLacks, brought_in, included_in, own_components}
 use Rattle.rn_assemble.specs.inside.Contained.{AreFlat, Inclusion, WrittenComponent, inclusions, item_inclusions, written_components}

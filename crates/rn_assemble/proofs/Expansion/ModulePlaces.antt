@@ -8,7 +8,7 @@ use Rattle.std.proofs.lemmas.List.Elements.{Contains-get_or}
 use Rattle.std.proofs.lemmas.Slice.Eq.{bytes_eq-Decides}
 use Rattle.std.proofs.lemmas.Cmp.{nat_list_cmp_total, tied_itself}
 use Rattle.rn_text.specs.Texts.{Text, text_cmp}
-use Rattle.rn_assemble.specs.declared.named_modules.NamedModule.{NamedModule}
+use Rattle.rn_assemble.specs.declared.reading.named_modules.NamedModule.{NamedModule}
 use Rattle.rn_assemble.specs.Components as s
 use Rattle.rn_assemble.specs.inside.Contained.{place_in}
 use Rattle.rn_assemble.specs.inside.Views.{module_names, modules_view}

@@ -6,16 +6,16 @@ use Rattle.std.specs.Rc.{rc_str_bytes}
 use Rattle.std.specs.List.{AllByRecursion, AllZip}
 use Rattle.std.specs.List.Sorted.{IsStrictlyIncreasing}
 use Rattle.std.specs.Option.{option_map_or}
-use Rattle.rn_assemble.specs.declared.context.Context.{Context}
+use Rattle.rn_assemble.specs.declared.resolving.context.Context.{Context}
 use Rattle.std.proofs.lemmas.Bool.{cases_eq, cases_lt}
 use Rattle.std.proofs.lemmas.List.{get_or_append_left, get_or-append_right}
 use Rattle.std.proofs.lemmas.List.Elements.{Contains-append_left, Contains-get_or, Contains-push, Contains-push_cases}
 use Rattle.std.proofs.lemmas.Option.{slice_get_within}
 use Rattle.rn_pattern.proofs.Ordered.Ascending.{each_append}
 use Rattle.rn_assemble.specs.Components.{NamedModule}
-use Rattle.rn_assemble.specs.declared.contents.Contents.{Contents}
-use Rattle.rn_assemble.specs.declared.segments.Segment.{Segment}
-use Rattle.rn_assemble.specs.declared.segments.Segments.{Segments}
+use Rattle.rn_assemble.specs.declared.reading.contents.Contents.{Contents}
+use Rattle.rn_assemble.specs.declared.including.segments.Segment.{Segment}
+use Rattle.rn_assemble.specs.declared.including.segments.Segments.{Segments}
 use Rattle.rn_assemble.specs.inside.ContentsOf.{AreContents, IsContents, segment_begin, segment_end}
 use Rattle.rn_assemble.specs.inside.Bringing.{CanAdd}
 use Rattle.rn_assemble.specs.inside.Placing.{AddsSegment, IsFirstOf, NotesPlace, PushesAt}

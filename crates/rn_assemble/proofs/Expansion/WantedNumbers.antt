@@ -20,7 +20,7 @@ use Rattle.rn_assemble.specs.inside.ContentsOf.{name_at}
 use Rattle.rn_assemble.specs.inside.Inclusions.{IsLeastAmong, IsMissing}
 use Rattle.rn_assemble.specs.inside.Referred.{lesser_text}
 use Rattle.rn_assemble.specs.inside.Views.{module_names, modules_view, texts_of}
-use Rattle.rn_assemble.specs.declared.named_modules.NamedModule as code
+use Rattle.rn_assemble.specs.declared.reading.named_modules.NamedModule as code
 use Rattle.rn_assemble.proofs.Referring.LeastUndefined.{no_text, texts_more}
 use Rattle.rn_assemble.proofs.Expansion.Inclusions.{not_missing}
 use Rattle.rn_assemble.proofs.Expansion.ModuleLookups.{none_named, place_name, place_within}

@@ -11,7 +11,7 @@ use Rattle.rn_pattern.proofs.Ordered.InOrder.{each_contained}
 use Rattle.rn_syntax.specs.declared.tree.Item.{Item}
 use Rattle.rn_syntax.specs.View.{item_view, items_view}
 use Rattle.rn_assemble.specs.Components.{NamedModule}
-use Rattle.rn_assemble.specs.declared.named_modules.NamedModule as code_module
+use Rattle.rn_assemble.specs.declared.reading.named_modules.NamedModule as code_module
 use Rattle.rn_assemble.specs.inside.Contained.{Inclusion, inclusions, item_inclusions, written_components, item_written_components, place_in}
 use Rattle.rn_assemble.specs.inside.Keyed.{AreAmong, AreNames, defines, item_defines}
 use Rattle.rn_assemble.specs.inside.Rows.{Placed, placed_from}

@@ -10,7 +10,7 @@ use Rattle.rn_pattern.proofs.Ordered.InOrder.{contains_front}
 use Rattle.rn_assemble.specs.Components.{Component, Key}
 use Rattle.rn_assemble.specs.Combine.{bodies, method_node, is_interleave, joined_tree, joined_pattern, of_key, uses}
 use Rattle.rn_assemble.specs.Firsts.{joined_members}
-use Rattle.rn_assemble.specs.declared.combining.Joined.{Joined}
+use Rattle.rn_assemble.specs.declared.by_key.combining.Joined.{Joined}
 use Rattle.rn_assemble.specs.inside.Patterns.{AreResolved, IsJoined, IsJoinedTo}
 use Rattle.rn_assemble.specs.inside.Tied.{AreTied}
 use Rattle.rn_assemble.specs.Refusal.{BreaksNameRules}

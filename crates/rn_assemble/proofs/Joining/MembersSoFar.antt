@@ -11,10 +11,10 @@ use Rattle.rn_pattern.specs.Tree.{Tree}
 use Rattle.rn_pattern.proofs.Ordered.Ascending.{each_append}
 use Rattle.rn_assemble.specs.Combine.{bodies}
 use Rattle.rn_assemble.specs.Components.{Component, Key, NamedModule}
-use Rattle.rn_assemble.specs.declared.key_rows.WrittenComponent as code
-use Rattle.rn_assemble.specs.declared.pieces.Piece.{Piece}
-use Rattle.rn_assemble.specs.declared.segments.Segment.{Segment}
-use Rattle.rn_assemble.specs.declared.contents.Contents.{Contents}
+use Rattle.rn_assemble.specs.declared.reading.key_rows.WrittenComponent as code
+use Rattle.rn_assemble.specs.declared.including.pieces.Piece.{Piece}
+use Rattle.rn_assemble.specs.declared.including.segments.Segment.{Segment}
+use Rattle.rn_assemble.specs.declared.reading.contents.Contents.{Contents}
 use Rattle.rn_assemble.specs.inside.ContentsOf.{declarations_at}
 use Rattle.rn_assemble.specs.inside.ContextBindings.{BindsAs}
 use Rattle.rn_assemble.specs.inside.Patterns.{numbers_from, resolved_bodies}

@@ -2,8 +2,8 @@
 use Rattle.std.proofs.Common.{◌≡◌, ⊎_elim, ℕ, ◌+◌, ◌<◌, List, length, sym, subst, arith}
 use Rattle.std.proofs.lemmas.Bool.{cases_lt}
 use Rattle.rn_assemble.specs.Components.{NamedModule}
-use Rattle.rn_assemble.specs.declared.key_rows.KeyRows.{KeyRows}
-use Rattle.rn_assemble.specs.declared.key_rows.WrittenComponent as code
+use Rattle.rn_assemble.specs.declared.reading.key_rows.KeyRows.{KeyRows}
+use Rattle.rn_assemble.specs.declared.reading.key_rows.WrittenComponent as code
 use Rattle.rn_assemble.specs.inside.Keyed.{key_at}
 use Rattle.rn_assemble.specs.inside.Rows.{AreRows, IsRowOf, row_at}
 use Rattle.rn_text.specs.Texts.{Text}

@@ -6,8 +6,8 @@ use Rattle.rn_text.specs.Texts.{Text, text_cmp}
 use Rattle.rn_assemble.specs.Components.{Key, NamedModule}
 use Rattle.rn_assemble.specs.Least.{key_cmp}
 use Rattle.rn_assemble.specs.Refusal.{Lacks, StandsFor, override}
-use Rattle.rn_assemble.specs.declared.checks.Lack.{Lack}
-use Rattle.rn_assemble.specs.declared.named_modules.NamedModule as code_module
+use Rattle.rn_assemble.specs.declared.by_key.checks.Lack.{Lack}
+use Rattle.rn_assemble.specs.declared.reading.named_modules.NamedModule as code_module
 use Rattle.rn_assemble.specs.inside.ContentsOf.{name_at}
 use Rattle.rn_assemble.specs.inside.Keyed.{key_at}
 use Rattle.rn_assemble.specs.inside.Lacking.{IsLeastLack}

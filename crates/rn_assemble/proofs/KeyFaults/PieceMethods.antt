@@ -10,9 +10,9 @@ use Rattle.std.proofs.lemmas.Option.{slice_get_cases}
 use Rattle.rn_syntax.specs.declared.token.Method.{Method}
 use Rattle.rn_assemble.specs.Combine.{is_plain}
 use Rattle.rn_assemble.specs.Components.{Component, Key, NamedModule}
-use Rattle.rn_assemble.specs.declared.key_rows.WrittenComponent as code
-use Rattle.rn_assemble.specs.declared.pieces.Piece.{Piece}
-use Rattle.rn_assemble.specs.declared.segments.Segment.{Segment}
+use Rattle.rn_assemble.specs.declared.reading.key_rows.WrittenComponent as code
+use Rattle.rn_assemble.specs.declared.including.pieces.Piece.{Piece}
+use Rattle.rn_assemble.specs.declared.including.segments.Segment.{Segment}
 use Rattle.rn_assemble.specs.inside.Pieces.{IsPiece, component_in, piece_components}
 
 any_mapped : {X Y : Type 0} (test : Y → Bool) (f : X → Y) (xs : List X) → list_any test (map f xs) ≡ list_any (λ x. test (f x)) xs

@@ -16,11 +16,11 @@ use Rattle.std.proofs.lemmas.Simd.{map-map}
 use Rattle.rn_pattern.proofs.Ordered.Ascending.{each_append}
 use Rattle.rn_pattern.proofs.Ordered.InOrder.{contained_each, contains_behind, contains_front, each_contained}
 use Rattle.rn_assemble.specs.Components.{NamedModule}
-use Rattle.rn_assemble.specs.declared.contents.Contents.{Contents}
-use Rattle.rn_assemble.specs.declared.key_rows.WrittenComponent as code
-use Rattle.rn_assemble.specs.declared.pieces.Piece.{Piece}
-use Rattle.rn_assemble.specs.declared.segments.Segment.{Segment}
-use Rattle.rn_assemble.specs.declared.segments.Segments.{Segments}
+use Rattle.rn_assemble.specs.declared.reading.contents.Contents.{Contents}
+use Rattle.rn_assemble.specs.declared.reading.key_rows.WrittenComponent as code
+use Rattle.rn_assemble.specs.declared.including.pieces.Piece.{Piece}
+use Rattle.rn_assemble.specs.declared.including.segments.Segment.{Segment}
+use Rattle.rn_assemble.specs.declared.including.segments.Segments.{Segments}
 use Rattle.rn_assemble.specs.inside.ContentsOf.{HasOrderedIncludes, IsSegmentOf, segment_begin, segment_end}
 use Rattle.rn_assemble.specs.inside.Pieces.{AreAllPieces, IsPiece, parts_in}
 use Rattle.rn_assemble.specs.inside.Runs.{AddsRun, IsEndOfRun, Precedes, piece_of}

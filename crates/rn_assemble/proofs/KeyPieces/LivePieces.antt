@@ -9,11 +9,11 @@ use Rattle.std.proofs.lemmas.List.Kept.{IsStrictlyIncreasing-filter}
 use Rattle.std.proofs.lemmas.Simd.{map-map}
 use Rattle.rn_assemble.specs.Combine.{of_key}
 use Rattle.rn_assemble.specs.Components.{Component, Key, NamedModule}
-use Rattle.rn_assemble.specs.declared.key_rows.WrittenComponent as code
-use Rattle.rn_assemble.specs.declared.pieces.Piece.{Piece}
-use Rattle.rn_assemble.specs.declared.segments.Brought.{Brought}
-use Rattle.rn_assemble.specs.declared.segments.Segment.{Segment}
-use Rattle.rn_assemble.specs.declared.segments.Segments.{Segments}
+use Rattle.rn_assemble.specs.declared.reading.key_rows.WrittenComponent as code
+use Rattle.rn_assemble.specs.declared.including.pieces.Piece.{Piece}
+use Rattle.rn_assemble.specs.declared.including.segments.Brought.{Brought}
+use Rattle.rn_assemble.specs.declared.including.segments.Segment.{Segment}
+use Rattle.rn_assemble.specs.declared.including.segments.Segments.{Segments}
 use Rattle.rn_assemble.specs.inside.Pieces.{AreAllPieces, AreLeft, ArePieces, IsPiece, overrides_in, parts_in}
 use Rattle.rn_assemble.specs.inside.Rows.{IsRowOf}
 use Rattle.rn_assemble.specs.inside.Runs.{is_overridden_in, marked_in}

@@ -10,9 +10,9 @@ use Rattle.std.proofs.lemmas.List.Folds.{list_any-append}
 use Rattle.std.proofs.lemmas.Simd.{map-map}
 use Rattle.rn_pattern.proofs.Ordered.InOrder.{contains_behind, contains_front}
 use borrow.Rule.Slice.PartMut.{mid_of, put_mid}
-use Rattle.rn_assemble.specs.declared.key_rows.WrittenComponent as code
-use Rattle.rn_assemble.specs.declared.pieces.Piece.{Piece}
-use Rattle.rn_assemble.specs.declared.segments.Brought.{Brought}
+use Rattle.rn_assemble.specs.declared.reading.key_rows.WrittenComponent as code
+use Rattle.rn_assemble.specs.declared.including.pieces.Piece.{Piece}
+use Rattle.rn_assemble.specs.declared.including.segments.Brought.{Brought}
 use Rattle.rn_assemble.specs.inside.Pieces.{overrides_in}
 use Rattle.rn_assemble.specs.inside.Runs.{ArePiecesIn, is_overridden_in, marked, marked_in}
 

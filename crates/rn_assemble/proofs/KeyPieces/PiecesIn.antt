@@ -6,8 +6,8 @@ use Rattle.std.proofs.lemmas.Bool.{cases_lt, ltb-false, ltb-true}
 use Rattle.std.proofs.lemmas.List.{get_or-map, length-map}
 use Rattle.std.proofs.lemmas.List.Sorted.{IsNonDecreasingBy-from_all_adjacent}
 use Rattle.std.proofs.lemmas.Option.{get_or_from_slice_get, slice_get_within}
-use Rattle.rn_assemble.specs.declared.pieces.Piece.{Piece}
-use Rattle.rn_assemble.specs.declared.segments.Brought.{Brought}
+use Rattle.rn_assemble.specs.declared.including.pieces.Piece.{Piece}
+use Rattle.rn_assemble.specs.declared.including.segments.Brought.{Brought}
 use Rattle.rn_assemble.specs.inside.Runs.{ArePiecesIn}
 use Rattle.rn_assemble.proofs.KeyPieces.RowFacts.{element_at}
 

@@ -5,9 +5,9 @@ use Rattle.std.specs.Option.{option_map_or}
 use Rattle.std.specs.List.{AllByRecursion, AllZip}
 use Rattle.std.proofs.lemmas.Option.{get_or_from_slice_get, same_Some, slice_get_cases, slice_get_within}
 use Rattle.rn_assemble.specs.Components.{Component, Key, NamedModule}
-use Rattle.rn_assemble.specs.declared.contents.Contents.{Contents}
-use Rattle.rn_assemble.specs.declared.key_rows.WrittenComponent as code
-use Rattle.rn_assemble.specs.declared.segments.Segments.{Segments}
+use Rattle.rn_assemble.specs.declared.reading.contents.Contents.{Contents}
+use Rattle.rn_assemble.specs.declared.reading.key_rows.WrittenComponent as code
+use Rattle.rn_assemble.specs.declared.including.segments.Segments.{Segments}
 use Rattle.rn_assemble.specs.inside.Contained.{written_components}
 use Rattle.rn_assemble.specs.inside.ContentsOf.{HasOrderedIncludes, IsContents, written_at}
 use Rattle.rn_assemble.specs.inside.Rows.{IsRowOf}

@@ -7,7 +7,7 @@ use Rattle.std.proofs.lemmas.List.Elements.{All-append, All-filter, All-from_rec
 use Rattle.std.proofs.lemmas.List.Kept.{AllPairs-cons, AllPairs-filter}
 use Rattle.std.proofs.lemmas.Option.{get_or_from_slice_get, slice_get_within}
 use Rattle.rn_assemble.specs.Components.{Key, NamedModule, same_key}
-use Rattle.rn_assemble.specs.declared.key_rows.WrittenComponent as code
+use Rattle.rn_assemble.specs.declared.reading.key_rows.WrittenComponent as code
 use Rattle.rn_assemble.specs.inside.Contained.{WrittenComponent, written_components}
 use Rattle.rn_assemble.specs.inside.ContentsOf.{written_at}
 use Rattle.rn_assemble.specs.inside.Rows.{IsRowOf, Placed, all_placed, placed_from, placed_in, placed_view}

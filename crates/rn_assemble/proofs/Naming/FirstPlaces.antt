@@ -10,8 +10,8 @@ use Rattle.rn_text.specs.Texts.{Text, text_cmp}
 use Rattle.rn_pattern.proofs.Ordered.InOrder.{contained_each, each_contained}
 use Rattle.rn_assemble.specs.Combine.{defined_names}
 use Rattle.rn_assemble.specs.Components.{Component, Key, NamedModule, has_key, name_key, start_key}
-use Rattle.rn_assemble.specs.declared.segments.Segments.{Segments}
-use Rattle.rn_assemble.specs.declared.settling_order.FirstPlace.{FirstPlace}
+use Rattle.rn_assemble.specs.declared.including.segments.Segments.{Segments}
+use Rattle.rn_assemble.specs.declared.by_key.settling_order.FirstPlace.{FirstPlace}
 use Rattle.rn_assemble.specs.inside.FirstPlaces.{AreFirstPlaces, IsLeftAt}
 use Rattle.rn_assemble.specs.inside.Keyed.{AreNames, key_at}
 use Rattle.rn_assemble.specs.inside.ReferenceOrder.{AreDefinedKeys}

@@ -14,11 +14,11 @@ use Rattle.rn_text.specs.Texts.{Text}
 use Rattle.rn_pattern.proofs.Ordered.InOrder.{contained_each, each_contained}
 use Rattle.rn_assemble.specs.Combine.{of_key}
 use Rattle.rn_assemble.specs.Components.{Component, Key, NamedModule, has_key}
-use Rattle.rn_assemble.specs.declared.key_rows.WrittenComponent as code
-use Rattle.rn_assemble.specs.declared.pieces.Piece.{Piece}
-use Rattle.rn_assemble.specs.declared.segments.Segment.{Segment}
-use Rattle.rn_assemble.specs.declared.segments.Segments.{Segments}
-use Rattle.rn_assemble.specs.declared.settling_order.FirstPlace.{FirstPlace}
+use Rattle.rn_assemble.specs.declared.reading.key_rows.WrittenComponent as code
+use Rattle.rn_assemble.specs.declared.including.pieces.Piece.{Piece}
+use Rattle.rn_assemble.specs.declared.including.segments.Segment.{Segment}
+use Rattle.rn_assemble.specs.declared.including.segments.Segments.{Segments}
+use Rattle.rn_assemble.specs.declared.by_key.settling_order.FirstPlace.{FirstPlace}
 use Rattle.rn_assemble.specs.inside.ContentsOf.{written_at}
 use Rattle.rn_assemble.specs.inside.FirstPlaces.{AreFirstPlaces, IsLeftAt}
 use Rattle.rn_assemble.specs.inside.Keyed.{key_at}

@@ -11,9 +11,9 @@ use Rattle.rn_pattern.proofs.Ordered.InOrder.{contains_behind, contains_cases, c
 use Rattle.rn_syntax.specs.Tree as t
 use Rattle.rn_syntax.specs.Tree.{Item, Items}
 use Rattle.rn_assemble.specs.Components.{Component, Key, NamedModule, has_key, name_key, same_key, start_key}
-use Rattle.rn_assemble.specs.declared.segments.Brought.{Brought}
-use Rattle.rn_assemble.specs.declared.segments.Segment.{Segment}
-use Rattle.rn_assemble.specs.declared.segments.Segments.{Segments}
+use Rattle.rn_assemble.specs.declared.including.segments.Brought.{Brought}
+use Rattle.rn_assemble.specs.declared.including.segments.Segment.{Segment}
+use Rattle.rn_assemble.specs.declared.including.segments.Segments.{Segments}
 use Rattle.rn_assemble.specs.inside.Contained.{WrittenComponent, item_written_components, written_components}
 use Rattle.rn_assemble.specs.inside.ContentsOf.{declarations_at, resolved_component, written_at}
 use Rattle.rn_assemble.specs.inside.Keyed.{AreNames, defines, item_defines, key_at}

@@ -11,7 +11,7 @@ use Rattle.rn_text.specs.Texts.{Text, text_cmp}
 use Rattle.rn_pattern.proofs.Ordered.InOrder.{contained_each, contains_behind, contains_cases, contains_front}
 use Rattle.rn_assemble.specs.Combine.{defined_names, first_of}
 use Rattle.rn_assemble.specs.Components.{Component, Key, name_key, start_key}
-use Rattle.rn_assemble.specs.declared.settling_order.FirstPlace.{FirstPlace}
+use Rattle.rn_assemble.specs.declared.by_key.settling_order.FirstPlace.{FirstPlace}
 use Rattle.rn_assemble.specs.inside.Keyed.{key_at}
 use Rattle.rn_assemble.specs.inside.Rows.{Placed}
 use Rattle.rn_assemble.proofs.KeyPieces.RowOrder.{IsBefore}

@@ -3,7 +3,7 @@ use Rattle.std.proofs.Common.{◌≡◌, ℕ, zero, suc, ◌+◌, ◌<◌, inl, 
 use Rattle.std.proofs.lemmas.List.Elements.{Contains-append_left, Contains-append_right, Contains-append_cases}
 use Rattle.rn_pattern.proofs.Ordered.InOrder.{contains_behind, contains_cases, contains_front}
 use Rattle.rn_assemble.specs.Components.{Key, NamedModule, same_key}
-use Rattle.rn_assemble.specs.declared.key_rows.WrittenComponent as code
+use Rattle.rn_assemble.specs.declared.reading.key_rows.WrittenComponent as code
 use Rattle.rn_assemble.specs.inside.Contained.{WrittenComponent, written_components}
 use Rattle.rn_assemble.specs.inside.ContentsOf.{written_at}
 use Rattle.rn_assemble.specs.inside.Rows.{IsRowOf, Placed, all_placed, placed_from, placed_in, placed_view, with_key}

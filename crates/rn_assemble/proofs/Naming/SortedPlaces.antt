@@ -6,7 +6,7 @@ use Rattle.std.proofs.lemmas.Bool.{cases_eq, cases_lt, eq-eqb, false≢true, le-
 use Rattle.std.proofs.lemmas.Cmp.{nat_cmp_total, on_total, then_total}
 use Rattle.std.proofs.lemmas.List.Sorted.{ranks_by, sorted_far}
 use Rattle.rn_pattern.proofs.Ordered.InOrder.{each_contained}
-use Rattle.rn_assemble.specs.declared.settling_order.FirstPlace.{FirstPlace}
+use Rattle.rn_assemble.specs.declared.by_key.settling_order.FirstPlace.{FirstPlace}
 use Rattle.rn_assemble.proofs.Naming.NamesInOrder.{InOrder, NotAfter}
 
 abbrev pub place_of : FirstPlace → ℕ × ℕ

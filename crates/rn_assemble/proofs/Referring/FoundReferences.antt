@@ -18,9 +18,9 @@ use Rattle.rn_text.specs.Texts.{Text}
 use Rattle.rn_assemble.specs.Combine.{bodies, joined_pattern, of_key}
 use Rattle.rn_assemble.specs.Components.{Component, Key, NamedModule}
 use Rattle.rn_assemble.specs.Resolve.{resolved_pattern}
-use Rattle.rn_assemble.specs.declared.key_rows.WrittenComponent as code
-use Rattle.rn_assemble.specs.declared.pieces.Piece.{Piece}
-use Rattle.rn_assemble.specs.declared.segments.Segment.{Segment}
+use Rattle.rn_assemble.specs.declared.reading.key_rows.WrittenComponent as code
+use Rattle.rn_assemble.specs.declared.including.pieces.Piece.{Piece}
+use Rattle.rn_assemble.specs.declared.including.segments.Segment.{Segment}
 use Rattle.rn_assemble.specs.inside.ContentsOf.{declarations_at}
 use Rattle.rn_assemble.specs.inside.Pieces.{ArePieces, IsPiece, component_in, piece_components}
 use Rattle.rn_assemble.specs.inside.Referred.{AreLiveMarks, marked_references, names_within, references}

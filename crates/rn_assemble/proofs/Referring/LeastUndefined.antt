@@ -18,7 +18,7 @@ use Rattle.rn_assemble.specs.inside.Referred.{AreNumbers, IsLeastUnmarked, IsMar
 use Rattle.rn_assemble.specs.inside.Views.{texts_of}
 use Rattle.rn_pattern.specs.declared.references.Reach.{Reach}
 use Rattle.rn_pattern.specs.declared.references.Reach.TheVariants.{Everywhere, OutsideElements}
-use Rattle.rn_assemble.specs.declared.references.Reference.{Reference}
+use Rattle.rn_assemble.specs.declared.by_key.references.Reference.{Reference}
 use Rattle.rn_assemble.proofs.Referring.KeyNumbers.{not_itself, numbered_name, same_number}
 
 -- what is read where there is no text

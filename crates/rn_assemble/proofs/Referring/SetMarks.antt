@@ -4,7 +4,7 @@ use Rattle.std.specs.Prelude.{◌↔◌, ◌⊎◌}
 use Rattle.std.proofs.lemmas.Bool.{cases_eq}
 use Rattle.std.proofs.lemmas.List.{get_or-set_other, get_or-set_same, length-set, take_more}
 use Rattle.std.proofs.lemmas.List.Elements.{Contains-append_left, Contains-push, Contains-push_cases}
-use Rattle.rn_assemble.specs.declared.pieces.Piece.{Piece}
+use Rattle.rn_assemble.specs.declared.including.pieces.Piece.{Piece}
 use Rattle.rn_assemble.specs.inside.Referred.{AreLiveMarks, AreMarksOf}
 
 abbrev IsMarked : List Bool → ℕ → Type 0

@@ -7,8 +7,8 @@ use Rattle.rn_text.specs.Texts.{Text}
 use Rattle.rn_syntax.specs.Tree.{Declaration}
 use Rattle.rn_assemble.specs.Components.{Component, NamedModule}
 use Rattle.rn_assemble.specs.Resolve.{resolved_pattern}
-use Rattle.rn_assemble.specs.declared.contents.Contents.{Contents}
-use Rattle.rn_assemble.specs.declared.contents.Include.{Include}
+use Rattle.rn_assemble.specs.declared.reading.contents.Contents.{Contents}
+use Rattle.rn_assemble.specs.declared.reading.contents.Include.{Include}
 use Rattle.rn_assemble.specs.inside.Contained.{WrittenComponent, written_components, inclusions}
 use Rattle.rn_assemble.specs.inside.ContextBindings.{BindsAs}
 use Rattle.rn_assemble.specs.inside.Views.{inclusion_view}

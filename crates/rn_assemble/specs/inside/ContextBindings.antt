@@ -5,8 +5,8 @@ use Rattle.rn_text.specs.Texts.{Text}
 use Rattle.rn_syntax.specs.BindingDeclarations.{bound}
 use Rattle.rn_syntax.specs.Tree.{Declaration}
 use Rattle.rn_assemble.specs.Resolve.{default_of, namespace_of}
-use Rattle.rn_assemble.specs.declared.declared_uris.DeclaredUris.{DeclaredUris}
-use Rattle.rn_assemble.specs.declared.context.Context.{Context}
+use Rattle.rn_assemble.specs.declared.resolving.declared_uris.DeclaredUris.{DeclaredUris}
+use Rattle.rn_assemble.specs.declared.resolving.context.Context.{Context}
 
 -- what is bound is what the declarations bind
 pub BindsAs : DeclaredUris → List Declaration → Type 0

@@ -3,9 +3,9 @@ use Rattle.std.specs.Prelude.{ℕ, suc, ◌<◌, ◌≤◌, ◌≡◌, ◌⊎◌
 use Rattle.std.specs.List.{AllByRecursion, IsDistinct}
 use Rattle.rn_text.specs.Texts.{Text}
 use Rattle.rn_assemble.specs.Components.{Component, Key, NamedModule, has_key}
-use Rattle.rn_assemble.specs.declared.settling_order.FirstPlace.{FirstPlace}
-use Rattle.rn_assemble.specs.declared.segments.Segment.{Segment}
-use Rattle.rn_assemble.specs.declared.segments.Segments.{Segments}
+use Rattle.rn_assemble.specs.declared.by_key.settling_order.FirstPlace.{FirstPlace}
+use Rattle.rn_assemble.specs.declared.including.segments.Segment.{Segment}
+use Rattle.rn_assemble.specs.declared.including.segments.Segments.{Segments}
 use Rattle.rn_assemble.specs.inside.Contained.{WrittenComponent}
 use Rattle.rn_assemble.specs.inside.ContentsOf.{written_at}
 use Rattle.rn_assemble.specs.inside.Keyed.{key_at}

@@ -3,7 +3,7 @@ use Rattle.std.specs.Prelude.{◌≡◌, ◌⊎◌, ℕ, zero, suc, ◌<◌, ◌
 use Rattle.rn_text.specs.Texts.{Text, text_cmp}
 use Rattle.rn_syntax.specs.Tree as t
 use Rattle.rn_syntax.specs.Tree.{Declaration, Item, Items}
-use Rattle.rn_assemble.specs.declared.checks.Lack.{Lack}
+use Rattle.rn_assemble.specs.declared.by_key.checks.Lack.{Lack}
 use Rattle.rn_assemble.specs.Components.{Key, NamedModule, handed_on, modules_named, components_within, instance_limit}
 use Rattle.rn_assemble.specs.inside.ContentsOf.{name_at}
 use Rattle.rn_assemble.specs.inside.Keyed.{key_at}

@@ -4,10 +4,10 @@ use Rattle.std.specs.declared.alloc.Global.{Global}
 use Rattle.std.specs.Rc.{rc_str_bytes}
 use Rattle.rn_text.specs.Texts.{Text}
 use Rattle.rn_assemble.specs.Components.{NamedModule}
-use Rattle.rn_assemble.specs.declared.contents.Contents.{Contents}
-use Rattle.rn_assemble.specs.declared.context.Context.{Context}
-use Rattle.rn_assemble.specs.declared.segments.Segment.{Segment}
-use Rattle.rn_assemble.specs.declared.segments.Segments.{Segments}
+use Rattle.rn_assemble.specs.declared.reading.contents.Contents.{Contents}
+use Rattle.rn_assemble.specs.declared.resolving.context.Context.{Context}
+use Rattle.rn_assemble.specs.declared.including.segments.Segment.{Segment}
+use Rattle.rn_assemble.specs.declared.including.segments.Segments.{Segments}
 use Rattle.rn_assemble.specs.inside.Segments.{AreSegments, HavePlaces, places_at, places_in}
 
 -- the list of that number, if there is one, got the place behind its own, and the others are as they were

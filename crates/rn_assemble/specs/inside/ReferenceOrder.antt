@@ -7,8 +7,8 @@ use Rattle.rn_pattern.specs.Matching.{definition_of}
 use Rattle.rn_pattern.specs.Reached.{IsReached}
 use Rattle.rn_pattern.specs.References.{RefersOutside}
 use Rattle.rn_pattern.specs.Tree.{Tree}
-use Rattle.rn_assemble.specs.declared.settling_order.KeyOrder.{KeyOrder}
-use Rattle.rn_assemble.specs.declared.settling_order.KeyOrder.TheVariants.{Ordered, Recursive}
+use Rattle.rn_assemble.specs.declared.by_key.settling_order.KeyOrder.{KeyOrder}
+use Rattle.rn_assemble.specs.declared.by_key.settling_order.KeyOrder.TheVariants.{Ordered, Recursive}
 use Rattle.rn_assemble.specs.Combine.{defined_names, joined_grammar, joined_pattern}
 use Rattle.rn_assemble.specs.Components.{Component, name_key}
 use Rattle.rn_assemble.specs.inside.Keyed.{IsNameNumber, key_at}

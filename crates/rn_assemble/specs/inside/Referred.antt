@@ -14,12 +14,12 @@ use Rattle.rn_assemble.specs.Components.{Component}
 use Rattle.rn_assemble.specs.Combine.{joined_pattern, joined_grammar}
 use Rattle.rn_assemble.specs.inside.Keyed.{IsNameNumber, key_at}
 use Rattle.rn_assemble.specs.Least.{IsLeast}
-use Rattle.rn_assemble.specs.declared.key_rows.WrittenComponent as code
-use Rattle.rn_assemble.specs.declared.pieces.Piece.{Piece}
+use Rattle.rn_assemble.specs.declared.reading.key_rows.WrittenComponent as code
+use Rattle.rn_assemble.specs.declared.including.pieces.Piece.{Piece}
 use Rattle.rn_syntax.specs.View.{boxed_view}
 use Rattle.rn_pattern.specs.declared.references.Reach.{Reach}
 use Rattle.rn_pattern.specs.declared.references.Reach.TheVariants.{Everywhere, OutsideElements}
-use Rattle.rn_assemble.specs.declared.references.Reference.{Reference}
+use Rattle.rn_assemble.specs.declared.by_key.references.Reference.{Reference}
 use Rattle.rn_assemble.specs.declared.refusal.Refusal.{Refusal}
 use Rattle.rn_assemble.specs.declared.refusal.Refusal.TheVariants as r
 

@@ -5,7 +5,7 @@ use Rattle.std.specs.declared.alloc.Global.{Global}
 use Rattle.rn_text.specs.Texts.{Text}
 use Rattle.rn_syntax.specs.View.{boxed_view}
 use Rattle.rn_assemble.specs.Components.{Key, NamedModule, same_key}
-use Rattle.rn_assemble.specs.declared.key_rows.WrittenComponent as code
+use Rattle.rn_assemble.specs.declared.reading.key_rows.WrittenComponent as code
 use Rattle.rn_assemble.specs.inside.Contained.{WrittenComponent, written_components}
 use Rattle.rn_assemble.specs.inside.Keyed.{AreNames, key_at}
 

@@ -1,11 +1,11 @@
 -- Runs of a row: the components of one module that no include parts.
 use Rattle.std.specs.Prelude.{ℕ, ◌<◌, ◌≤◌, ◌≡◌, ◌⊎◌, ◌↔◌, ◌&&◌, not, nat_lt, Bool, true, false, List, ◌++◌, length, map, slice_get, Some, Contains}
 use Rattle.std.specs.List.{AllPairs, list_any}
-use Rattle.rn_assemble.specs.declared.contents.Contents.{Contents}
-use Rattle.rn_assemble.specs.declared.key_rows.WrittenComponent as code
-use Rattle.rn_assemble.specs.declared.pieces.Piece.{Piece}
-use Rattle.rn_assemble.specs.declared.segments.Brought.{Brought}
-use Rattle.rn_assemble.specs.declared.segments.Segments.{Segments}
+use Rattle.rn_assemble.specs.declared.reading.contents.Contents.{Contents}
+use Rattle.rn_assemble.specs.declared.reading.key_rows.WrittenComponent as code
+use Rattle.rn_assemble.specs.declared.including.pieces.Piece.{Piece}
+use Rattle.rn_assemble.specs.declared.including.segments.Brought.{Brought}
+use Rattle.rn_assemble.specs.declared.including.segments.Segments.{Segments}
 use Rattle.rn_assemble.specs.inside.ContentsOf.{IsSegmentOf, segment_end}
 use Rattle.rn_assemble.specs.inside.Pieces.{overrides_in}
 use Rattle.rn_assemble.specs.inside.Segments.{places_at}

@@ -3,8 +3,8 @@ use Rattle.std.specs.Prelude.{Bool, true, false}
 use Rattle.std.specs.Rc.{rc_str_bytes}
 use Rattle.rn_syntax.specs.Tree as t
 use Rattle.rn_syntax.specs.Tree.{Uri}
-use Rattle.rn_assemble.specs.declared.declared_uris.SharedUri.{SharedUri}
-use Rattle.rn_assemble.specs.declared.declared_uris.SharedUri.TheVariants as u
+use Rattle.rn_assemble.specs.declared.resolving.declared_uris.SharedUri.{SharedUri}
+use Rattle.rn_assemble.specs.declared.resolving.declared_uris.SharedUri.TheVariants as u
 
 abbrev pub shared_uri : SharedUri → Uri
 shared_uri (u.Text s) = t.literal (rc_str_bytes s)

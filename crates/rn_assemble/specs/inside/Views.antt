@@ -5,10 +5,10 @@ use Rattle.std.specs.List.Sorted.{IsStrictlySortedBy}
 use Rattle.rn_text.specs.Texts.{Text, text_cmp}
 use Rattle.rn_syntax.specs.View.{declaration_view, items_view, module_view, prefix_view}
 use Rattle.rn_syntax.specs.declared.tree.Item.{Item}
-use Rattle.rn_assemble.specs.declared.named_modules.NamedModule as code_module
-use Rattle.rn_assemble.specs.declared.keys.Keys.{Keys}
-use Rattle.rn_assemble.specs.declared.contents.Contents.{Contents}
-use Rattle.rn_assemble.specs.declared.contents.Include.{Include}
+use Rattle.rn_assemble.specs.declared.reading.named_modules.NamedModule as code_module
+use Rattle.rn_assemble.specs.declared.reading.keys.Keys.{Keys}
+use Rattle.rn_assemble.specs.declared.reading.contents.Contents.{Contents}
+use Rattle.rn_assemble.specs.declared.reading.contents.Include.{Include}
 use Rattle.rn_assemble.specs.Components.{NamedModule}
 pub use Rattle.rn_assemble.specs.inside.Keyed.{texts_of}
 use Rattle.rn_assemble.specs.inside.Contained.{Inclusion}

@@ -1,6 +1,6 @@
 use Rattle.std.proofs.Common.{List, subst, sym, ap, ◌∙◌}
 use Rattle.std.specs.List.{AllByRecursion}
-use Rattle.rn_assemble.specs.declared.named_modules.NamedModule as code_module
+use Rattle.rn_assemble.specs.declared.reading.named_modules.NamedModule as code_module
 use Rattle.rn_assemble.specs.Components.{NamedModule}
 use Rattle.rn_assemble.specs.GrammarView.{grammar_view}
 use Rattle.rn_assemble.specs.Refused.{IsFirstRefusal}

@@ -1,0 +1,19 @@
+-- The modules without a mark.
+use Rattle.std.proofs.Common.{◌≡◌, ℕ, List, length, arith, rules, subst, tests}
+use Rattle.std.proofs.lemmas.Iterator.{YieldsList-from_slice}
+use Rattle.std.proofs.lemmas.Iterator.Adapters.{items_from_extend}
+use Rattle.std.proofs.lemmas.Iterator.Consumers.{YieldsList-at, YieldsList-from_enumerate, YieldsList-from_filter_map}
+use Rattle.rn_pattern.specs.Graph.{rows_of}
+use Rattle.rn_assemble.proofs.Expansion.EntryMarks.{number, unmarked_entries}
+use Rattle.rn_assemble.proofs.including.inclusion.roots.Goals as goal
+
+pub returns : goal.returns
+returns c =
+    let marks = c.in_ok-included.included.items in
+    let rows = rows_of c.args.rows.now in
+    let size : length marks ≡ length rows = omega (arith, c.in_ok-included.ensures.size, c.in_ok-included.included.ok) in
+    let kept = items_from_extend c.extend.result c.extend.ensures.ran
+    (YieldsList-from_filter_map _ number
+    (YieldsList-at c.filter_map.ensures.source (YieldsList-from_enumerate (YieldsList-at c.enumerate.ensures.source (YieldsList-from_slice marks (cc))) (cc)))
+    c.filter_map.ensures.closure (λ x r q k. search (rules, tests))) in
+    subst (λ (ns : List ℕ). c.extend.new.self.items ≡ ns) (unmarked_entries marks rows size c.in_ok-included.ensures.exact) (search rules)

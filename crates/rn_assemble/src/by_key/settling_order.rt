@@ -1,0 +1,185 @@
+// The order in which keys, and the definitions of a grammar, can be settled (RELAX NG 2001, 4.19).
+ghost use Rattle.std.specs.Prelude.{ℕ, ◌<◌, ◌≡◌, IfOk, List, length, map, nat_eq, slice_index_or};
+ghost use Rattle.std.specs.List.Sorted.{IsStrictlySortedBy};
+ghost use Rattle.rn_text.specs.Texts.{Text, text_cmp};
+ghost use Rattle.rn_pattern.specs.Graph.{IsGraph, rows_of};
+ghost use Rattle.rn_pattern.specs.Ranks.{rank_of};
+ghost use Rattle.rn_assemble.specs.Components.{Component, NamedModule};
+ghost use Rattle.rn_assemble.specs.inside.FirstPlaces.{AreFirstPlaces};
+ghost use Rattle.rn_assemble.specs.inside.Pieces.{AreKnown, OfRows};
+ghost use Rattle.rn_assemble.specs.inside.Rows.{AreRows};
+ghost use Rattle.rn_assemble.specs.inside.Segments.{AreSegmentsOf};
+ghost use Rattle.rn_assemble.specs.inside.ReferenceOrder.{AreDefinedKeys, ArePlaces, IsKeyOrder, IsOrderBy, IsReferenceOrder};
+ghost use Rattle.rn_assemble.specs.inside.Referred.{AreAllReferences};
+ghost use Rattle.std.specs.List.{AllByRecursion, IsDistinct};
+ghost use Rattle.rn_assemble.specs.Combine.{joined_grammar};
+ghost use Rattle.rn_assemble.specs.SettlingOrder.{IsSettlingOrder};
+ghost use Rattle.rn_assemble.specs.inside.Views.{names_of};
+
+use crate::including::segments::Segments;
+use crate::reading::key_rows::KeyRows;
+use crate::reading::keys::{Keys, START};
+use rn_pattern::ReferenceRows;
+use rn_pattern::graph::{marked_rows, reached_nodes};
+use rn_pattern::ranks::{Order, ranks};
+use std::alloc::{AllocError, Global};
+
+/// An order of keys, or what stands against one.
+#[derive(Drop)]
+pub(crate) enum KeyOrder {
+    /// The keys that start reaches, each behind those that it refers to outside elements.
+    Ordered(Vec<usize>),
+    /// The least key that start reaches and that comes back to itself by references outside elements.
+    Recursive(usize),
+}
+
+/// The keys that start reaches in an order in which each comes after those that it refers to outside elements, or the
+/// least that comes back to itself by such references.
+pub(crate) fn key_order(alloc: Global, references: &ReferenceRows) -> Result<KeyOrder, AllocError>
+    requires everywhere { IsGraph (rows_of references.now.everywhere) }
+    requires some { 0 < length (rows_of references.now.everywhere) }
+    requires outside { IsGraph (rows_of references.now.outside) }
+    requires size { length (rows_of references.now.outside)
+        ≡ length (rows_of references.now.everywhere) }
+    ensures { (names : List Text) (cs : List Component) → IsStrictlySortedBy text_cmp names
+        → AreAllReferences names cs (rows_of references.now.everywhere)
+        (rows_of references.now.outside) → IfOk result (IsKeyOrder names cs) }
+{
+    let first = references.everywhere.row(START);
+    let reached = reached_nodes(alloc, &references.everywhere, first)?;
+    let reached = reached.as_slice();
+    let outside = marked_rows(alloc, &references.outside, reached)?;
+    match ranks(alloc, &outside)? {
+        Order::Ranked(ranks) => {
+            let order = marked_in_order(alloc, reached, ranks.as_slice())?;
+            Ok(KeyOrder::Ordered(order))
+        }
+        Order::Looped(key) => Ok(KeyOrder::Recursive(key)),
+    }
+}
+
+/// The places that have a mark, by the ranks of these.
+fn marked_in_order(alloc: Global, marks: &[bool], ranks: &[usize]) -> Result<Vec<usize>, AllocError>
+    ensures { IfOk result (λ v. IsOrderBy marks.now (rank_of ranks.now) v.items) }
+{
+    let mut order = marked_places(alloc, marks)?;
+    order.sort_by_key(|place: &usize| ranks.get(*place).copied().unwrap_or(0))?;
+    Ok(order)
+}
+
+/// The places that have a mark.
+fn marked_places(alloc: Global, marks: &[bool]) -> Result<Vec<usize>, AllocError>
+    ensures { IfOk result (λ v. ArePlaces marks.now v.items) }
+{
+    let mut places = Vec::new(alloc);
+    for place in 0..marks.len() {
+        if marks[place] {
+            places.push(place)?;
+        }
+    }
+    Ok(places)
+}
+
+/// The order in which the definitions that components are joined to can be settled: the indices of definitions in that
+/// of their keys, which is given. `defined` are the keys of all definitions.
+pub(crate) fn settling_order(
+    alloc: Global,
+    keys: &Keys<'_>,
+    defined: &[usize],
+    order: &[usize],
+) -> Result<Vec<usize>, AllocError>
+    ensures { (cs : List Component) → IsStrictlySortedBy text_cmp (names_of keys.now)
+        → AreDefinedKeys (names_of keys.now) cs defined.now
+        → IsReferenceOrder (names_of keys.now) cs order.now
+        → IfOk result (λ s. IsSettlingOrder (joined_grammar cs) s.items) }
+{
+    let numbers = definition_numbers(alloc, keys.len(), defined)?;
+    numbers_of(alloc, order, &numbers)
+}
+
+/// The key of a name, and where its first component stands: in which segment, and with which number there.
+#[derive(Clone, Copy)]
+struct FirstPlace {
+    segment: usize,
+    number: usize,
+    key: usize,
+}
+
+/// The keys of the names that the components define, in the order of each one's first component.
+pub(crate) fn defined_keys(
+    alloc: Global,
+    rows: &KeyRows<'_>,
+    segments: &Segments<'_, '_, '_>,
+) -> Result<Vec<usize>, AllocError>
+    requires { AreKnown rows.now segments.now }
+    ensures { OfRows rows.now segments.now
+        (λ names cs. IfOk result (λ v. AreDefinedKeys names cs v.items)) }
+{
+    let mut places = first_places(alloc, rows, segments)?;
+    places.sort_by_key(|place: &FirstPlace| (place.segment, place.number))?;
+    let mut keys = Vec::with_capacity(alloc, places.len())?;
+    for place in &places {
+        keys.push(place.key)?;
+    }
+    Ok(keys)
+}
+
+/// Where the first component of each name stands that has one.
+fn first_places(
+    alloc: Global,
+    rows: &KeyRows<'_>,
+    segments: &Segments<'_, '_, '_>,
+) -> Result<Vec<FirstPlace>, AllocError>
+    requires { AreKnown rows.now segments.now }
+    ensures { (modules : List NamedModule) (names : List Text) (cs : List Component)
+        → IsStrictlySortedBy text_cmp names → AreRows modules names rows.now.rows.items
+        → AreSegmentsOf modules segments.now cs
+        → IfOk result (λ v. AreFirstPlaces modules segments.now names cs v.items) }
+{
+    let mut places = Vec::with_capacity(alloc, rows.len())?;
+    let mut pieces = Vec::new(alloc);
+    for key in START + 1..rows.len() {
+        let row = rows.row(key);
+        segments.live_pieces(row, &mut pieces)?;
+        if let Some(first) = pieces.first() {
+            places.push(FirstPlace {
+                segment: first.segment,
+                number: row[first.from].number,
+                key,
+            })?;
+        }
+    }
+    Ok(places)
+}
+
+/// For each of that many keys, the index of it among the defined ones; 0 for those that aren't among them.
+pub(crate) fn definition_numbers(
+    alloc: Global,
+    count: usize,
+    defined: &[usize],
+) -> Result<Vec<usize>, AllocError>
+    ensures { IsDistinct nat_eq defined.now → AllByRecursion (λ k. k < count) defined.now
+        → IfOk result (λ v. (i : ℕ) → i < length defined.now
+        → slice_index_or v.items (slice_index_or defined.now i 0) 0 ≡ i) }
+{
+    let mut numbers = vec![in alloc; 0; count]?;
+    for number in 0..defined.len() {
+        let key = defined[number];
+        if key < numbers.len() {
+            numbers[key] = number;
+        }
+    }
+    Ok(numbers)
+}
+
+/// The number of each of the keys.
+fn numbers_of(alloc: Global, keys: &[usize], numbers: &[usize]) -> Result<Vec<usize>, AllocError>
+    ensures { IfOk result (λ v. v.items
+        ≡ map (λ k. slice_index_or numbers.now k 0) keys.now) }
+{
+    let mut found = Vec::with_capacity(alloc, keys.len())?;
+    for key in keys {
+        found.push(numbers.get(*key).copied().unwrap_or(0))?;
+    }
+    Ok(found)
+}
