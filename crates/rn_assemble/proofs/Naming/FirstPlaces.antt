@@ -1,6 +1,6 @@
 -- The first places of names in the order of their keys, and sorted.
-use Rattle.std.proofs.Common.{◌≡◌, ◌⊎◌, ℕ, zero, suc, ◌+◌, ◌-◌, ◌<◌, ◌≤◌, inl, inr, ⊎_elim, Bool, true, false, List, [], ◌∷◌, ◌++◌, length, map, get_or, refl, sym, ap, ◌∙◌, subst, arith, Contains, nat_eq, IsPermutation}
-use Rattle.std.specs.List.{AllByRecursion, IsDistinct}
+use Rattle.std.proofs.Common.{◌≡◌, ◌⊎◌, ℕ, zero, suc, ◌-◌, ◌<◌, ◌≤◌, true, List, [], length, map, get_or, refl, sym, ap, ◌∙◌, subst, arith, Contains, nat_eq, IsPermutation}
+use Rattle.std.specs.List.{IsDistinct}
 use Rattle.std.specs.List.Sorted.{IsStrictlySortedBy}
 use Rattle.std.proofs.lemmas.Cmp.{nat_eq_equiv}
 use Rattle.std.proofs.lemmas.List.Sorted.{Contains-permutation, IsPermutation-map, IsPermutation-sym}
@@ -8,8 +8,7 @@ use Rattle.std.proofs.lemmas.Map.Keys.{IsDistinct-IsPermutation}
 use Rattle.std.proofs.lemmas.Simd.{map-map}
 use Rattle.rn_text.specs.Texts.{Text, text_cmp}
 use Rattle.rn_pattern.proofs.Ordered.InOrder.{contained_each, each_contained}
-use Rattle.rn_assemble.specs.Combine.{defined_names}
-use Rattle.rn_assemble.specs.Components.{Component, Key, NamedModule, has_key, name_key, start_key}
+use Rattle.rn_assemble.specs.Components.{Component, NamedModule, has_key, name_key, start_key}
 use Rattle.rn_assemble.specs.declared.including.segments.Segments.{Segments}
 use Rattle.rn_assemble.specs.declared.by_key.settling_order.FirstPlace.{FirstPlace}
 use Rattle.rn_assemble.specs.inside.FirstPlaces.{AreFirstPlaces, IsLeftAt}
@@ -19,13 +18,9 @@ use Rattle.rn_assemble.specs.inside.Rows.{Placed}
 use Rattle.rn_assemble.specs.inside.Segments.{AreSegmentsOf}
 use Rattle.rn_assemble.proofs.Naming.KnownKeys.{has_there, set_number}
 use Rattle.rn_assemble.proofs.Naming.LeftComponents.{all_left, at_left, key_of, left_at, left_rises, same_keys}
-use Rattle.rn_assemble.proofs.Naming.NamesInOrder.{AreFirsts, InOrder, in_order, is_new, names_in, names_of_keys, none_seen}
+use Rattle.rn_assemble.proofs.Naming.NamesInOrder.{AreFirsts, InOrder, in_order, names_in, names_of_keys, none_seen}
 use Rattle.rn_assemble.proofs.Referring.ListMembers.{map_contained, map_contains}
-
--- the name of a number
-pub number_name : (names : List Text) (n : ℕ) → 0 < n → key_at names n ≡ name_key (get_or names (n - 1) [])
-number_name names zero h = absurd (omega (arith, h))
-number_name names (suc i) h = ap (λ j. name_key (get_or names j [])) (let e : i ≡ suc i - 1 = omega arith in e)
+use Rattle.rn_assemble.proofs.Referring.KeyNumbers.{number_name}
 
 above_start : (names : List Text) (x : Text) (n : ℕ) → name_key x ≡ key_at names n → 0 < n
 above_start names x zero e = let wrong : name_key x ≡ start_key = e in cc

@@ -1,5 +1,5 @@
 -- The first places of names, found key by key.
-use Rattle.std.proofs.Common.{◌≡◌, ◌⊎◌, ℕ, zero, suc, ◌+◌, ◌<◌, ◌≤◌, inl, inr, ⊎_elim, Bool, true, false, List, [], ◌∷◌, ◌++◌, length, map, flat_map, filter, None, Some, refl, sym, ap, ◌∙◌, subst, arith, Contains, nat_eq, below_more}
+use Rattle.std.proofs.Common.{◌≡◌, ◌⊎◌, ℕ, zero, suc, ◌+◌, ◌<◌, ◌≤◌, inl, inr, ⊎_elim, true, false, List, [], ◌∷◌, ◌++◌, length, map, None, Some, refl, sym, ap, ◌∙◌, subst, arith, Contains, nat_eq, below_more}
 use Rattle.std.specs.Prelude.{slice_get}
 use Rattle.std.specs.List.{AllByRecursion, AllPairs, IsDistinct}
 use Rattle.std.specs.List.Sorted.{IsStrictlyIncreasing}
@@ -11,8 +11,6 @@ use Rattle.std.proofs.lemmas.List.Kept.{AllPairs-filter, AllPairs-from_increasin
 use Rattle.std.proofs.lemmas.Map.Keys.{IsDistinct-push}
 use Rattle.std.proofs.lemmas.Option.{get_or_from_slice_get, none-some, same_Some, slice_get_within}
 use Rattle.rn_text.specs.Texts.{Text}
-use Rattle.rn_pattern.proofs.Ordered.InOrder.{contained_each, each_contained}
-use Rattle.rn_assemble.specs.Combine.{of_key}
 use Rattle.rn_assemble.specs.Components.{Component, Key, NamedModule, has_key}
 use Rattle.rn_assemble.specs.declared.reading.key_rows.WrittenComponent as code
 use Rattle.rn_assemble.specs.declared.including.pieces.Piece.{Piece}
@@ -28,7 +26,7 @@ use Rattle.rn_assemble.specs.inside.Runs.{Precedes}
 use Rattle.rn_assemble.proofs.KeyPieces.RowOrder.{row_rises}
 use Rattle.rn_assemble.proofs.KeyPieces.RowParts.{is_within}
 use Rattle.rn_assemble.proofs.KeyPieces.Runs.{within_holds, within_says}
-use Rattle.rn_assemble.proofs.Naming.KeptMembers.{kept_contained, kept_passes, kept_there, range_get}
+use Rattle.rn_assemble.proofs.Naming.KeptMembers.{kept_passes, kept_there, range_get}
 use Rattle.rn_assemble.proofs.Naming.PlacedComponents.{row_is_written, row_there}
 use Rattle.rn_assemble.proofs.Referring.LeastKeys.{has_none}
 use Rattle.rn_assemble.proofs.Referring.MarkedPlaces.{none_same}

@@ -1,5 +1,5 @@
 -- The keys of all components that modules define have numbers.
-use Rattle.std.proofs.Common.{◌≡◌, ℕ, suc, ◌<◌, inl, inr, ⊎_elim, Bool, true, false, not, ◌||◌, filter, List, [], ◌∷◌, ◌++◌, length, get_or, Option, Some, None, refl, sym, ap, ◌∙◌, subst, arith, Contains, slice_range}
+use Rattle.std.proofs.Common.{◌≡◌, ℕ, suc, ◌<◌, inl, inr, ⊎_elim, Bool, true, false, not, ◌||◌, filter, List, [], ◌∷◌, length, Option, Some, None, refl, sym, ap, ◌∙◌, subst, arith, Contains, slice_range}
 use Rattle.std.specs.Prelude.{slice_get}
 use Rattle.std.proofs.lemmas.Bool.{false≢true, or_right}
 use Rattle.std.proofs.lemmas.List.{get_or_default}
@@ -15,7 +15,7 @@ use Rattle.rn_assemble.specs.declared.including.segments.Brought.{Brought}
 use Rattle.rn_assemble.specs.declared.including.segments.Segment.{Segment}
 use Rattle.rn_assemble.specs.declared.including.segments.Segments.{Segments}
 use Rattle.rn_assemble.specs.inside.Contained.{WrittenComponent, item_written_components, written_components}
-use Rattle.rn_assemble.specs.inside.ContentsOf.{declarations_at, resolved_component, written_at}
+use Rattle.rn_assemble.specs.inside.ContentsOf.{written_at}
 use Rattle.rn_assemble.specs.inside.Keyed.{AreNames, defines, item_defines, key_at}
 use Rattle.rn_assemble.specs.inside.Segments.{AreSegmentsOf, is_overridden, left_from, segment_components}
 use Rattle.rn_assemble.proofs.Naming.KeptMembers.{in_range, kept_contained}

@@ -1,5 +1,5 @@
 -- The mark of one number more.
-use Rattle.std.proofs.Common.{◌+◌, take, set, get_or, sym, ap, subst, arith}
+use Rattle.std.proofs.Common.{◌+◌, take, sym, ap, subst, arith}
 use Rattle.rn_assemble.specs.inside.Referred.{AreMarksOf}
 use Rattle.rn_assemble.proofs.Referring.SetMarks.{mark_past, mark_set}
 use Rattle.rn_assemble.proofs.by_key.references.marks_of.Goals as goal

@@ -1,9 +1,7 @@
 -- The keys so far have their references, and what is held is the least name of them that has no mark.
-use Rattle.std.proofs.Common.{◌≡◌, ◌+◌, List, length, option_map}
-use Rattle.rn_text.specs.Texts.{Text}
+use Rattle.std.proofs.Common.{◌≡◌, ◌+◌, length, option_map}
 use Rattle.rn_pattern.specs.Graph.{rows_of}
 use Rattle.rn_pattern.proofs.Graphs.BuiltRows.{AreRows}
-use Rattle.rn_assemble.specs.Components.{Component}
 use Rattle.rn_assemble.specs.inside.Pieces.{OfKeys}
 use Rattle.rn_assemble.specs.inside.Views.{names_of}
 use Rattle.rn_assemble.proofs.Referring.GatheredReferences.{Gathered}

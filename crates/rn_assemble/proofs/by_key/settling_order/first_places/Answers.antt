@@ -1,7 +1,6 @@
-use Rattle.std.proofs.Common.{◌≡◌, ◌+◌, ◌<◌, ◌≤◌, List, length, Some, sym, ap, ◌∙◌, subst, arith, get_or, option_copied}
+use Rattle.std.proofs.Common.{◌≡◌, ◌+◌, ◌<◌, length, Some, sym, ap, ◌∙◌, subst, arith, get_or, option_copied}
 use Rattle.std.specs.Prelude.{slice_get}
 use Rattle.std.proofs.lemmas.Option.{slice_get-get_or}
-use Rattle.rn_assemble.specs.declared.by_key.settling_order.FirstPlace.{FirstPlace}
 use Rattle.rn_assemble.specs.inside.Keyed.{key_at}
 use Rattle.rn_assemble.specs.inside.Rows.{IsRowOf}
 use Rattle.rn_assemble.proofs.Naming.KeyByKey.{ArePlacesBelow, all_below, first_more, first_within, no_first, none_below, same_below}
