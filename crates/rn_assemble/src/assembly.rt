@@ -120,9 +120,8 @@ fn join_keys<'s>(
 }
 
 /// The keys of definitions that the start reaches, each after those that it refers to outside elements; `defined` are
-/// those of all definitions. Or the refusal of
-/// names that aren't defined, or of reachable ones that come back to themselves outside elements (RELAX NG 2001, 4.18
-/// and 4.19).
+/// those of all definitions. Or the refusal of names that aren't defined, or of reachable ones that come back to
+/// themselves outside elements (RELAX NG 2001, 4.18 and 4.19).
 fn check_references<'s>(
     alloc: Global,
     keys: &Keys<'s>,
