@@ -3,7 +3,7 @@
 
 bench/hostile.py SHAPE [twin] > BUNDLE: SHAPE is one of the functions named at the end, each of which says what it aims at. A twin has the same
 kind and size, and nothing in it is aimed. `rnc-merge print` of both is to take about the same time and memory.
-bench/hostile.py --run PROGRAM [--old PROGRAM] [--rounds N]: a table of all shapes beside their twins, and of three that have none, with medians of the
+bench/hostile.py --run PROGRAM [--old PROGRAM] [--rounds N]: a table of all shapes beside their twins, and of four that have none, with medians of the
 rounds (5). The old program runs once, and where any run takes more than 20 s, one is enough. Each run may have 8 GB.
 """
 import argparse
@@ -154,8 +154,8 @@ def contexts(twin):
     return {"a": "\n".join(f"n{i:04d} |= element e{{empty}}" for i in range(2000)), "driver": "\n".join([*declared, "start = n0000", *included])}
 
 
-TWINNED = (definitions, prefixes, namespaces, literals, parentheses, interleaved, names, includes, uri, libraries, contexts)
-SHAPES = {shape.__name__: shape for shape in (*TWINNED, components, instances, interleaves)}
+TWINNED = (definitions, prefixes, namespaces, literals, parentheses, interleaved, names, includes, uri, libraries)
+SHAPES = {shape.__name__: shape for shape in (*TWINNED, components, instances, contexts, interleaves)}
 MEMORY = 8 << 30
 
 
