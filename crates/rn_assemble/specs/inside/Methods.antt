@@ -5,6 +5,8 @@ use Rattle.rn_syntax.specs.declared.token.Method.{Method}
 use Rattle.rn_syntax.specs.declared.token.Method.TheVariants as m
 use Rattle.rn_assemble.specs.Components.{Component, Key, has_key, start_key}
 use Rattle.rn_assemble.specs.Combine.{is_plain, is_choice, is_interleave, IsPlainTwice, IsMixed}
+use Rattle.rn_assemble.specs.declared.by_key.checks.MethodFault.{MethodFault}
+use Rattle.rn_assemble.specs.declared.by_key.checks.MethodFault.TheVariants.{PlainTwice, Mixed}
 use Rattle.rn_assemble.specs.declared.refusal.Refusal.{Refusal}
 use Rattle.rn_assemble.specs.declared.refusal.Refusal.TheVariants as r
 use Rattle.rn_assemble.specs.Least.{IsLeast, key_cmp}
@@ -16,6 +18,11 @@ abbrev pub is_method : Method → Method → Bool
 is_method m.Plain = is_plain
 is_method m.Choice = is_choice
 is_method m.Interleave = is_interleave
+
+-- the fault stands against combining the components of the key (RELAX NG 2001, 4.17)
+abbrev pub HasFault : MethodFault → List Component → Key → Type 0
+HasFault PlainTwice cs k = IsPlainTwice k cs
+HasFault Mixed cs k = IsMixed k cs
 
 -- the number of the least key of which P holds, or it holds of none
 abbrev pub IsLeastNumber : List Text → (Key → Type 0) → Option ℕ → Type 0

@@ -11,7 +11,7 @@ ghost use Rattle.rn_assemble.specs.Refusal.{Lacks};
 ghost use Rattle.rn_assemble.specs.inside.Bringing.{IsLackIn};
 ghost use Rattle.rn_assemble.specs.inside.Checked.{IsLacking};
 ghost use Rattle.rn_assemble.specs.inside.Lacking.{IsLeastLack, IsLesser};
-ghost use Rattle.rn_assemble.specs.inside.Methods.{CanCombine, IsLeastNumber, IsUncombined, is_method};
+ghost use Rattle.rn_assemble.specs.inside.Methods.{CanCombine, HasFault, IsLeastNumber, IsUncombined, is_method};
 ghost use Rattle.rn_assemble.specs.inside.Pieces.{AreKnown, AreKnownBy, AreSomePieces, OfKeys, OfRows, WithPieces};
 ghost use Rattle.rn_assemble.specs.inside.Rows.{AreRows};
 ghost use Rattle.rn_assemble.specs.inside.Segments.{AreSegmentsOf};
@@ -31,6 +31,15 @@ use std::alloc::{AllocError, Global};
 pub(crate) struct Lack {
     pub module: usize,
     pub key: usize,
+}
+
+/// What stands against combining the components of a key (RELAX NG 2001, 4.17).
+#[derive(Clone, Copy)]
+enum MethodFault {
+    /// Two of them are plain.
+    PlainTwice,
+    /// They use both methods.
+    Mixed,
 }
 
 /// Refuses the least override of what isn't there: the least module, and the least key of it (RELAX NG 2001, 4.7).
@@ -111,12 +120,12 @@ pub(crate) fn check_methods(
     ensures { OfKeys keys.now rows.now segments.now
         (λ names cs. MatchResult result (λ _. CanCombine cs) (IsUncombined cs)) }
 {
-    if let Some(key) = least_plain_twice(alloc, rows, segments)? {
+    if let Some(key) = least_at_fault(alloc, MethodFault::PlainTwice, rows, segments)? {
         return Err(Refusal::PlainTwice {
             key: keys.key(alloc, key)?,
         });
     }
-    if let Some(key) = least_mixed(alloc, rows, segments)? {
+    if let Some(key) = least_at_fault(alloc, MethodFault::Mixed, rows, segments)? {
         return Err(Refusal::MixedMethods {
             key: keys.key(alloc, key)?,
         });
@@ -129,46 +138,37 @@ pub(crate) fn check_methods(
     Ok(())
 }
 
-/// The least key with two plain components.
-fn least_plain_twice(
+/// The least key that has the fault.
+fn least_at_fault(
     alloc: Global,
+    fault: MethodFault,
     rows: &KeyRows<'_>,
     segments: &Segments<'_, '_, '_>,
 ) -> Result<Option<usize>, AllocError>
     requires { AreKnown rows.now segments.now }
     ensures { OfRows rows.now segments.now (λ names cs. IfOk result
-        (IsLeastNumber names (λ k. spec.IsPlainTwice k cs))) }
+        (IsLeastNumber names (HasFault fault cs))) }
 {
     let mut pieces = Vec::new(alloc);
     for key in 0..rows.len() {
         let row = rows.row(key);
         segments.live_pieces(row, &mut pieces)?;
-        if is_plain_twice(row, &pieces) {
+        if has_fault(fault, row, &pieces) {
             return Ok(Some(key));
         }
     }
     Ok(None)
 }
 
-/// The least key whose components use both methods.
-fn least_mixed(
-    alloc: Global,
-    rows: &KeyRows<'_>,
-    segments: &Segments<'_, '_, '_>,
-) -> Result<Option<usize>, AllocError>
-    requires { AreKnown rows.now segments.now }
-    ensures { OfRows rows.now segments.now (λ names cs. IfOk result
-        (IsLeastNumber names (λ k. spec.IsMixed k cs))) }
+/// Whether the components of these pieces have the fault.
+fn has_fault(fault: MethodFault, row: &[WrittenComponent<'_>], pieces: &[Piece]) -> bool
+    requires { AreSomePieces row.now pieces.now }
+    ensures { WithPieces row.now pieces.now (λ k cs. IsTrue result ↔ HasFault fault cs k) }
 {
-    let mut pieces = Vec::new(alloc);
-    for key in 0..rows.len() {
-        let row = rows.row(key);
-        segments.live_pieces(row, &mut pieces)?;
-        if is_mixed(row, &pieces) {
-            return Ok(Some(key));
-        }
+    match fault {
+        MethodFault::PlainTwice => is_plain_twice(row, pieces),
+        MethodFault::Mixed => is_mixed(row, pieces),
     }
-    Ok(None)
 }
 
 /// Whether two components of these pieces are plain.

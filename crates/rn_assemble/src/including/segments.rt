@@ -44,7 +44,7 @@ pub(crate) struct Brought {
     pub to: usize,
 }
 
-/// The segments of a set in the order of its components: at most two for each instance of a module.
+/// The segments of a set in the order of its components. There are fewer than twice as many as instances of modules.
 #[derive(Drop)]
 pub(crate) struct Segments<'c, 't, 's> {
     pub contents: &'c [Contents<'t, 's>],

@@ -1,14 +1,14 @@
 use Rattle.std.proofs.Common.{◌<◌, List, length, sym, subst, ◌∙◌, arith}
 use Rattle.std.proofs.lemmas.Bool.{false≢true}
-use Rattle.rn_assemble.specs.Combine.{IsPlainTwice}
+use Rattle.rn_assemble.specs.inside.Methods.{HasFault}
 use Rattle.rn_assemble.specs.declared.including.pieces.Piece.{Piece}
 use Rattle.rn_assemble.specs.inside.Keyed.{key_at}
 use Rattle.rn_assemble.specs.inside.Pieces.{ArePieces}
 use Rattle.rn_assemble.proofs.KeyFaults.KnownRows.{below_next, row_of}
-use Rattle.rn_assemble.proofs.by_key.checks.least_plain_twice.Goals as goal
+use Rattle.rn_assemble.proofs.by_key.checks.least_at_fault.Goals as goal
 
-pub is_plain_twice-requires : goal.is_plain_twice-requires
-is_plain_twice-requires c =
+pub has_fault-requires : goal.has_fault-requires
+has_fault-requires c =
     let h = c.requires.1 in
     let names = c.requires.0 in
     let list = c.args.segments.now.list.items in
@@ -19,8 +19,8 @@ is_plain_twice-requires c =
     let found = c.in_ok-live_pieces.ensures.pieces h.modules (key_at names key) h.components row_is h.segments_are in
     (list, (subst (λ (ps : List Piece). ArePieces h.modules list (key_at names key) row h.components ps) (sym c.deref.ensures.value) found).each)
 
-pub returns-then-is_plain_twice : goal.returns-then-is_plain_twice
-returns-then-is_plain_twice c = λ modules names cs o rows segments.
+pub returns-then-has_fault : goal.returns-then-has_fault
+returns-then-has_fault c = λ modules names cs o rows segments.
     let list = c.args.segments.now.list.items in
     let key = c.loop-key.key in
     let row = c.row-row.result.now in
@@ -28,7 +28,7 @@ returns-then-is_plain_twice c = λ modules names cs o rows segments.
     let row_is = row_of modules names c.args.rows.now rows key below row c.row-row.ensures in
     let found = c.in_ok-live_pieces.ensures.pieces modules (key_at names key) cs row_is segments in
     let pieces = subst (λ (ps : List Piece). ArePieces modules list (key_at names key) row cs ps) (sym c.deref.ensures.value) found in
-    (omega (arith, below, rows.size), (c.is_plain_twice.ensures modules list (key_at names key) cs pieces).0 c.if-is_plain_twice.true, c.loop-key.invariant.none modules names cs rows segments)
+    (omega (arith, below, rows.size), (c.has_fault.ensures modules list (key_at names key) cs pieces).0 c.if-has_fault.true, c.loop-key.invariant.none modules names cs rows segments)
 
 pub loop-key-preserved : goal.loop-key-preserved
 loop-key-preserved c = record {
@@ -40,6 +40,6 @@ loop-key-preserved c = record {
       let row_is = row_of modules names c.args.rows.now rows key below row c.row-row.ensures in
       let found = c.in_ok-live_pieces.ensures.pieces modules (key_at names key) cs row_is segments in
       let pieces = subst (λ (ps : List Piece). ArePieces modules list (key_at names key) row cs ps) (sym c.deref.ensures.value) found in
-      below_next (λ n. ¬ IsPlainTwice (key_at names n) cs) key (c.loop-key.invariant.none modules names cs rows segments)
-      (λ m. false≢true (sym c.if-is_plain_twice.false ∙ (c.is_plain_twice.ensures modules list (key_at names key) cs pieces).1 m));
+      below_next (λ n. ¬ HasFault c.args.fault cs (key_at names n)) key (c.loop-key.invariant.none modules names cs rows segments)
+      (λ m. false≢true (sym c.if-has_fault.false ∙ (c.has_fault.ensures modules list (key_at names key) cs pieces).1 m));
 }
