@@ -9,12 +9,12 @@ use Rattle.std.proofs.lemmas.List.Elements.{All-weaker}
 use Rattle.rn_files.specs.Maps.{Groups, IsFoundFolder}
 use Rattle.rn_files.specs.ReadableFiles.{Gives, IsFrontOfRead, IsKept, IsReadAt, IsReadFor, IsReadSource, IsReadWithin, IsTextRead, Leads, LiesInMap, MayBeRead, Reads, lies_in}
 use Rattle.rn_files.specs.inside.Following.{IsDecodedIn, IsFollowed, IsFront, IsKeptIn, IsRootOf}
-use Rattle.rn_files.specs.declared.root_folder.RootFolder.{RootFolder}
+use Rattle.rn_files.specs.declared.opening.root_folder.RootFolder.{RootFolder}
 use Rattle.rn_files.specs.declared.sources.Asked.{Asked}
 use Rattle.rn_files.specs.declared.sources.SourceFile.{SourceFile}
 use Rattle.rn_files.specs.declared.sources.XmlSource.{XmlSource}
 use Rattle.rn_xml.specs.Encodings.{may_be_xml, IsDecoded}
-use Rattle.rn_files.specs.declared.walk.Followed.{Followed}
+use Rattle.rn_files.specs.declared.walking.walk.Followed.{Followed}
 
 none_matched : {A : Type 0} (o : Option A) (P Q : Type 0) → is_some o ≡ false → P → MatchOption o P (λ x. Q)
 none_matched None P Q e p = p

@@ -15,7 +15,7 @@ use Rattle.std.proofs.lemmas.Slice.Eq.{ends_is, starts_is}
 use Rattle.std.proofs.lemmas.Str.Pattern.{ends_text, starts_text}
 use Rattle.rn_files.specs.Maps.{Groups, HasNoMap, HasNoMapIn, IsFound, IsLongest, ahead, behind, left_by}
 use Rattle.rn_files.specs.inside.Maps.{chosen}
-use Rattle.rn_files.specs.declared.maps.Map.{Map}
+use Rattle.rn_files.specs.declared.mapping.maps.Map.{Map}
 
 -- what `strip_prefix` gives
 pub stripped : (p s : List ℕ) (r : Option (Bor (List ℕ))) → MatchOption r (FindsTextPrefix p s None) (λ x. StripsPrefix (FindsTextPrefix p) s x.now)

@@ -7,11 +7,11 @@ use Rattle.std.specs.declared.alloc.Global.{Global}
 use Rattle.percent_encoding.specs.Percent.{percent_decode}
 use Rattle.rn_files.specs.Paths.{has_dots}
 use Rattle.rn_files.specs.Uris.{parts_of}
-use Rattle.rn_files.specs.declared.maps.Map.{Map}
-use Rattle.rn_files.specs.declared.maps.MapTarget.{MapTarget}
-use Rattle.rn_files.specs.declared.maps.MapTarget.TheVariants.{Files, Elsewhere, Delegated}
-use Rattle.rn_files.specs.declared.maps.UriPart.{UriPart}
-use Rattle.rn_files.specs.declared.maps.UriPart.TheVariants.{Front, Whole, End}
+use Rattle.rn_files.specs.declared.mapping.maps.Map.{Map}
+use Rattle.rn_files.specs.declared.mapping.maps.MapTarget.{MapTarget}
+use Rattle.rn_files.specs.declared.mapping.maps.MapTarget.TheVariants.{Files, Elsewhere, Delegated}
+use Rattle.rn_files.specs.declared.mapping.maps.UriPart.{UriPart}
+use Rattle.rn_files.specs.declared.mapping.maps.UriPart.TheVariants.{Front, Whole, End}
 
 -- the rest behind a prefix begins where a segment ends: nothing is left, or a slash comes next, or came last
 abbrev pub is_whole : List ℕ → List ℕ → Bool

@@ -1,7 +1,7 @@
 -- Files in memory.
 use Rattle.std.specs.Prelude.{◌≡◌, ℕ, List, Option, Some, None}
-use Rattle.rn_files.specs.declared.memory_files.MemoryEntry.{MemoryEntry}
-use Rattle.rn_files.specs.declared.memory_files.MemoryEntry.TheVariants.{File, Pipe, Link, Swapped}
+use Rattle.rn_files.specs.declared.opening.memory_files.MemoryEntry.{MemoryEntry}
+use Rattle.rn_files.specs.declared.opening.memory_files.MemoryEntry.TheVariants.{File, Pipe, Link, Swapped}
 
 -- what is at a real path is a file, or a pipe, of these bytes
 abbrev pub IsFileOf : Option MemoryEntry → List ℕ → Type 0

@@ -4,8 +4,8 @@ use Rattle.std.specs.Prelude.{◌≡◌, ◌⊎◌, ℕ, Bool, true, List, [], �
 use Rattle.std.specs.List.{ends_with}
 use Rattle.std.specs.Option.{option_copied}
 use Rattle.rn_files.specs.Maps.{Groups, IsFoundFolder, behind_prefix}
-use Rattle.rn_files.specs.declared.source_reading.ReadingFault.{ReadingFault}
-use Rattle.rn_files.specs.declared.source_reading.ReadingFault.TheVariants.{Faults, Memory}
+use Rattle.rn_files.specs.declared.walking.source_reading.ReadingFault.{ReadingFault}
+use Rattle.rn_files.specs.declared.walking.source_reading.ReadingFault.TheVariants.{Faults, Memory}
 use Rattle.rn_files.specs.declared.sources.Asked.{Asked}
 use Rattle.rn_files.specs.declared.sources.SourceFile.{SourceFile}
 use Rattle.rn_files.specs.declared.sources.XmlSource.{XmlSource}

@@ -3,8 +3,8 @@ use Rattle.std.specs.Prelude.{ℕ, ◌==◌, not, List, length, Option, Some, No
 use Rattle.std.specs.List.{list_any}
 use Rattle.rn_files.specs.Escapes.{escaped_reference, has_escapes}
 use Rattle.rn_files.specs.Uris.{parts_of, recomposed_uri, target}
-use Rattle.rn_files.specs.declared.uri_references.ReferenceFault.{ReferenceFault}
-use Rattle.rn_files.specs.declared.uri_references.ReferenceFault.TheVariants.{Empty, Fragment, Query, Escape}
+use Rattle.rn_files.specs.declared.references.uri_references.ReferenceFault.{ReferenceFault}
+use Rattle.rn_files.specs.declared.references.uri_references.ReferenceFault.TheVariants.{Empty, Fragment, Query, Escape}
 
 -- what is wrong with a reference, the first of these: it is empty, has a fragment, has a query, or has a `%` that begins no escape
 abbrev pub fault_of : List ℕ → Option ReferenceFault

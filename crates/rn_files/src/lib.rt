@@ -9,48 +9,31 @@
 //! An `AllocError`, and `Memory` of a fault, says that memory ran out. It is the only error unless said otherwise.
 #![tactic(auto)]
 
-mod bounds;
-mod catalog_maps;
-mod catalogs;
-mod escapes;
-mod file_names;
-mod file_texts;
-mod files;
-mod following;
 pub mod laws;
 mod line_breaks;
-mod links;
-mod locations;
-mod maps;
-mod meant_uris;
-mod memory_files;
+mod mapping;
 mod module_names;
-mod paths;
+mod opening;
 mod positions;
-mod root_folder;
-mod shown_paths;
-mod soundness;
+mod references;
 mod source_faults;
-mod source_reading;
 mod sources;
-mod uri_references;
-mod uris;
-mod walk;
+mod walking;
 
-pub use catalogs::read_catalogs;
-pub use file_texts::MAX_TEXT;
-pub use files::{FileFault, Files, Kinds, OpenedFile, STANDARD_INPUT};
 pub use line_breaks::Position;
-pub use maps::{Map, MapPlace, MapTarget, UriPart};
-pub use memory_files::MemoryFiles;
+pub use mapping::catalogs::read_catalogs;
+pub use mapping::maps::{Map, MapPlace, MapTarget, UriPart};
 pub use module_names::module_name;
-pub use paths::remove_dot_segments;
+pub use opening::file_texts::MAX_TEXT;
+pub use opening::files::{FileFault, Files, Kinds, OpenedFile, STANDARD_INPUT};
+pub use opening::memory_files::MemoryFiles;
 pub use positions::{line_of, position};
+pub use references::paths::remove_dot_segments;
+pub use references::uri_references::{ReferenceFault, resolve};
 pub use rn_catalog::CatalogFaultKind;
 pub use source_faults::{FaultPlace, LinkFault, SourceFault, SourceFaultKind, Tried};
-pub use source_reading::{
+pub use sources::{Asked, Attempt, SourceFile, Sources, XmlSource};
+pub use walking::source_reading::{
     LinkedFiles, Reading, ReadingFault, read_files, read_sources, sources_of,
 };
-pub use sources::{Asked, Attempt, SourceFile, Sources, XmlSource};
-pub use uri_references::{ReferenceFault, resolve};
-pub use walk::MAX_SOURCES;
+pub use walking::walk::MAX_SOURCES;

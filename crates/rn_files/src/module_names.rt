@@ -2,7 +2,7 @@
 ghost use Rattle.std.specs.Prelude.{◌≡◌, IfOk, string_bytes};
 ghost use Rattle.rn_files.specs.ModuleNames.{is_plain, name_of};
 
-use crate::escapes::push_byte;
+use crate::references::escapes::push_byte;
 use std::alloc::{AllocError, Global};
 
 /// Whether a byte of a path stands in a name as it is: `A-Z a-z 0-9 . _ / - : ~`.

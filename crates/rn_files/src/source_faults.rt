@@ -1,7 +1,7 @@
 // What is wrong with files, and where.
 
-use crate::files::FileFault;
-use crate::uri_references::ReferenceFault;
+use crate::opening::files::FileFault;
+use crate::references::uri_references::ReferenceFault;
 use rn_catalog::CatalogFaultKind;
 use rn_outline::Wanted;
 use rn_translate::RngFaultKind;

@@ -2,7 +2,7 @@
 ghost use Rattle.std.specs.Prelude.{◌≡◌, MatchOption};
 ghost use Rattle.rn_translate.specs.Origins.{origin_of};
 
-use crate::maps::Map;
+use crate::mapping::maps::Map;
 use rn_outline::Outline;
 use rn_translate::Origins;
 

@@ -1,8 +1,8 @@
 -- Ranks of the nodes of a graph, by which each edge leads to a lower rank, and loops.
 use Rattle.std.specs.Prelude.{◌≡◌, ℕ, ◌<◌, List, length, slice_index_or, Contains}
 use Rattle.rn_pattern.specs.Graph.{row}
-use Rattle.rn_pattern.specs.declared.ranks.Order.{Order}
-use Rattle.rn_pattern.specs.declared.ranks.Order.TheVariants.{Ranked, Looped}
+use Rattle.rn_pattern.specs.declared.adjacency.ranks.Order.{Order}
+use Rattle.rn_pattern.specs.declared.adjacency.ranks.Order.TheVariants.{Ranked, Looped}
 
 -- y is reached from x by one edge or more
 pub data Leads (rows : List (List ℕ)) : ℕ → ℕ → Type 0 where

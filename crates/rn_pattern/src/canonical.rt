@@ -15,7 +15,7 @@ ghost use Rattle.rn_pattern.specs.View.{name_class_view, parameters_view};
 
 use crate::connector::Connector;
 use crate::node::{Node, NodeId};
-use crate::node_table::NodeTable;
+use crate::tables::node_table::NodeTable;
 use crate::tree::NameClass;
 use std::alloc::{AllocError, Global};
 use std::cmp::Ordering;

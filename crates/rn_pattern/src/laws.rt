@@ -18,10 +18,10 @@ ghost use Rattle.rn_pattern.specs.Replaced.{replaced_grammar};
 ghost use Rattle.rn_pattern.specs.Built.{StaysCanonical};
 ghost use Rattle.rn_pattern.specs.Store.{AddsOnly, KeepsIds, StandsFor};
 
-use crate::interned::Interned;
 use crate::node::NodeId;
-use crate::pattern_store::Patterns;
-use crate::plain::Plain;
+use crate::tables::interned::Interned;
+use crate::tables::pattern_store::Patterns;
+use crate::tables::plain::Plain;
 
 /// Each canonical step gives a pattern that matches exactly what the node over its parts matches, in every grammar, for
 /// every table of datatypes, at every depth of references (RELAX NG 2001, 4.20, 4.21 and 6.2).

@@ -16,42 +16,30 @@
 //! Where a call answers `AllocError`, memory ran out; it refuses nothing else.
 #![tactic(auto)]
 
+pub mod adjacency;
 pub mod boxes;
 mod canonical;
 mod connector;
 mod copies;
-pub mod graph;
-mod hashing;
 mod heads;
-pub mod interned;
-mod libraries;
-pub mod loops;
 mod name_class;
 pub mod name_classes;
 pub mod node;
 mod node_parts;
-mod node_table;
 mod order;
-pub mod pattern_store;
-pub mod plain;
-pub mod ranks;
-pub mod references;
-pub mod rows;
-mod search;
-pub mod seed;
 pub mod small_string;
-mod store;
+pub mod tables;
 pub mod tree;
 
-pub use interned::Interned;
+pub use adjacency::references::{NodeReferences, Reach, ReferenceRows};
+pub use adjacency::rows::Rows;
 pub use name_classes::XMLNS_URI;
 pub use node::{Node, NodeId};
-pub use pattern_store::Patterns;
-pub use plain::Plain;
-pub use references::{NodeReferences, Reach, ReferenceRows};
-pub use rows::Rows;
-pub use seed::Seed;
 pub use small_string::SmallString;
+pub use tables::hashing::Seed;
+pub use tables::interned::Interned;
+pub use tables::pattern_store::Patterns;
+pub use tables::plain::Plain;
 pub use tree::{Data, NameClass, Named, Pattern, Value};
 
 pub mod examples;

@@ -2,8 +2,8 @@
 use Rattle.std.specs.Prelude.{ℕ, List}
 use Rattle.rn_report.specs.JsonMessages.{AreObjectLines}
 use Rattle.rn_report.specs.Messages.{AreLines}
-use Rattle.rn_report.specs.declared.formats.Format.{Format}
-use Rattle.rn_report.specs.declared.formats.Format.TheVariants.{Lines, Json}
+use Rattle.rn_report.specs.declared.showing.formats.Format.{Format}
+use Rattle.rn_report.specs.declared.showing.formats.Format.TheVariants.{Lines, Json}
 use Rattle.rn_report.specs.declared.report.Messages.{Messages}
 use Rattle.rn_report.specs.declared.report.Page.{Page}
 

@@ -8,41 +8,23 @@
 //! An `AllocError` says that memory ran out. It is the only error unless said otherwise.
 #![tactic(auto)]
 
-mod brought;
-mod check_sentences;
-mod cursor;
-mod defined;
-mod fault_messages;
-mod file_messages;
-mod findings;
-mod formats;
-mod further_refusals;
-mod general_sentences;
-mod json_messages;
-mod lacks;
-mod link_sentences;
-mod loop_sites;
+mod finding;
 mod message_kinds;
-mod near_names;
-mod nearest_keys;
-mod outside_names;
-mod placed_definitions;
+mod placing;
 mod report;
-mod sentences;
-mod shown_lines;
-mod sites;
-mod token_sentences;
+mod showing;
+mod wording;
 
-pub use fault_messages::{is_unread, set_message};
-pub use file_messages::{lift_messages, reading_messages};
-pub use formats::{Format, message_text};
-pub use json_messages::message_objects;
-pub use lacks::{Lacks, lacks_of};
+pub use finding::lacks::{Lacks, lacks_of};
 pub use message_kinds::MessageKind;
-pub use placed_definitions::{DefinitionPlace, definition_places};
+pub use placing::placed_definitions::{DefinitionPlace, definition_places};
 pub use report::{
     Colours, MAX_TOLD, Message, Messages, Page, Spot, attempt_pages, message_lines, push_printable,
     source_pages,
 };
-pub use sentences::{refusal_messages, refusal_messages_of_parts};
-pub use shown_lines::{SHOWN, skipped_front};
+pub use showing::formats::{Format, message_text};
+pub use showing::json_messages::message_objects;
+pub use showing::shown_lines::{SHOWN, skipped_front};
+pub use wording::fault_messages::{is_unread, set_message};
+pub use wording::file_messages::{lift_messages, reading_messages};
+pub use wording::sentences::{refusal_messages, refusal_messages_of_parts};

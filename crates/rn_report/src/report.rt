@@ -6,7 +6,7 @@ ghost use Rattle.rn_report.specs.inside.Messages.{AddsMessage, one_more};
 ghost use Rattle.rn_report.specs.PrintedCharacters.{colour, head, is_hidden, painted, printable, printed, word};
 
 use crate::message_kinds::MessageKind;
-use crate::shown_lines::push_source;
+use crate::showing::shown_lines::push_source;
 use rn_files::{Attempt, SourceFile, XmlSource, position};
 use std::alloc::{AllocError, Global};
 use unicode::properties::GeneralCategory;

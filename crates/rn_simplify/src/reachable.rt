@@ -13,7 +13,7 @@ ghost use Rattle.rn_simplify.specs.inside.MarkedElements.{marked_elements};
 
 use crate::references::add_references;
 use rn_assemble::Definitions;
-use rn_pattern::graph::reached_nodes;
+use rn_pattern::adjacency::graph::reached_nodes;
 use rn_pattern::{Pattern, Rows};
 use std::alloc::{AllocError, Global};
 

@@ -8,7 +8,7 @@ ghost use Rattle.rn_syntax.specs.Terminal as term;
 ghost use Rattle.rn_syntax.specs.Terminal.{◌#◌};
 ghost use Rattle.rn_syntax.specs.TokenTerminals.{placed, terminals_of};
 
-use crate::terminals::{Terminal, symbol};
+use crate::productions::terminals::{Terminal, symbol};
 use rn_text::{Kind, Token};
 
 /// How many brackets a module may have open at once.

@@ -1,16 +1,31 @@
-// Patterns made by their readers, each in its box with the index behind it.
-ghost use Rattle.std.specs.Prelude.{Some, None};
+// Patterns made by their readers, each in its box with the index behind it; and lists of them, out of their boxes.
+ghost use Rattle.std.specs.Prelude.{◌≡◌, ◌++◌, ◌∷◌, [], None, OnOk, Some};
 ghost use Rattle.std.specs.Cow.{cow_str_bytes};
 ghost use Rattle.rn_syntax.specs.inside.Readers.{Makes};
 ghost use Rattle.rn_syntax.specs.Tree as tree;
 ghost use Rattle.rn_syntax.specs.View.{boxed_view, class_view, datatype_view, params_view, pattern_view, patterns_view, type_view};
 
-use crate::boxes::boxed;
 use crate::fault::Fault;
 use crate::token::{Operator, Postfix};
 use crate::tree::{Data, Datatype, Named, Param, Pat, Value};
-use std::alloc::Global;
+use std::alloc::{AllocError, Global};
 use std::borrow::CowStr;
+
+/// What was read, in its box, and the index behind it. The readers hand boxes on, which are small.
+pub(crate) fn boxed<T: Drop>(alloc: Global, value: T, end: usize) -> Result<(Box<T>, usize), Fault>
+    ensures { Makes (λ b. b.value) value end result }
+{
+    Ok((Box::new(alloc, value)?, end))
+}
+
+/// Adds a member, out of its box, to those of a chain or a choice, which lie side by side.
+pub(crate) fn push_member<T: Drop>(members: &mut Vec<T>, member: Box<T>) -> Result<(), AllocError>
+    ensures { OnOk result (members.new.items
+        ≡ members.old.items ++ member.value ∷ []) }
+{
+    members.push(Box::into_inner(member))?;
+    Ok(())
+}
 
 pub(crate) fn element<'a>(
     alloc: Global,

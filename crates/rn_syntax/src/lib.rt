@@ -1,25 +1,16 @@
 //! Modules of the RELAX NG compact syntax, from tokens to trees as they are written.
 #![tactic(auto)]
 
-mod annotations;
 mod bindings;
-mod boxes;
 mod brackets;
 mod constructors;
-mod datatypes;
-mod declarations;
 pub mod fault;
 pub mod included;
-mod items;
 pub mod laws;
-mod literals;
-mod modules;
-mod names;
-mod patterns;
 mod places;
+mod productions;
 pub mod reader;
 mod rules;
-mod terminals;
 pub mod token;
 pub mod tree;
 

@@ -16,8 +16,8 @@ use Rattle.rn_pattern.proofs.Graphs.BuiltRows.{below_push}
 use Rattle.rn_assemble.specs.inside.Keyed.{IsFound, IsNameNumber}
 use Rattle.rn_assemble.specs.inside.Referred.{AreNumbers, IsLeastUnmarked, IsMarkedName, KeepsLeast, lesser_text, names_within, number_within, reference_view, within}
 use Rattle.rn_assemble.specs.inside.Views.{texts_of}
-use Rattle.rn_pattern.specs.declared.references.Reach.{Reach}
-use Rattle.rn_pattern.specs.declared.references.Reach.TheVariants.{Everywhere, OutsideElements}
+use Rattle.rn_pattern.specs.declared.adjacency.references.Reach.{Reach}
+use Rattle.rn_pattern.specs.declared.adjacency.references.Reach.TheVariants.{Everywhere, OutsideElements}
 use Rattle.rn_assemble.specs.declared.by_key.references.Reference.{Reference}
 use Rattle.rn_assemble.proofs.Referring.KeyNumbers.{not_itself, numbered_name, same_number}
 

@@ -20,8 +20,8 @@ use crate::including::segments::Segments;
 use crate::reading::key_rows::KeyRows;
 use crate::reading::keys::{Keys, START};
 use rn_pattern::ReferenceRows;
-use rn_pattern::graph::{marked_rows, reached_nodes};
-use rn_pattern::ranks::{Order, ranks};
+use rn_pattern::adjacency::graph::{marked_rows, reached_nodes};
+use rn_pattern::adjacency::ranks::{Order, ranks};
 use std::alloc::{AllocError, Global};
 
 /// An order of keys, or what stands against one.

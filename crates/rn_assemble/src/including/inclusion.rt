@@ -15,7 +15,7 @@ use crate::including::instances::{INSTANCE_LIMIT, instances_up_to};
 use crate::reading::named_modules::NamedModule;
 use crate::refusal::Refusal;
 use rn_pattern::Rows;
-use rn_pattern::ranks::least_looped;
+use rn_pattern::adjacency::ranks::least_looped;
 use rn_syntax::includes;
 use std::alloc::{AllocError, Global};
 use std::cmp::Ordering;

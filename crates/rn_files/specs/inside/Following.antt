@@ -5,10 +5,10 @@ use Rattle.rn_files.specs.Maps.{Groups, IsLocation}
 use Rattle.rn_files.specs.ReadableFiles.{Gives, IsKept, IsReadAt, IsTextRead, Leads, Reads, with_slash}
 use Rattle.rn_xml.specs.Encodings.{IsDecoded}
 use Rattle.rn_files.specs.declared.sources.XmlSource.{XmlSource}
-use Rattle.rn_files.specs.declared.bounds.Ways.{Ways}
-use Rattle.rn_files.specs.declared.root_folder.RootFolder.{RootFolder}
-use Rattle.rn_files.specs.declared.walk.Followed.{Followed}
-use Rattle.rn_files.specs.declared.walk.Walk.{Walk}
+use Rattle.rn_files.specs.declared.opening.bounds.Ways.{Ways}
+use Rattle.rn_files.specs.declared.opening.root_folder.RootFolder.{RootFolder}
+use Rattle.rn_files.specs.declared.walking.walk.Followed.{Followed}
+use Rattle.rn_files.specs.declared.walking.walk.Walk.{Walk}
 
 -- a walk found as many files as it had found before, or more
 abbrev pub EntriesGrow : Walk → Walk → Type 0

@@ -7,7 +7,7 @@ use Rattle.rn_files.specs.Paths.{Segment, is_up, walked_folder}
 use Rattle.rn_files.specs.UriReferences.{fault_of, resolved_uri}
 use Rattle.rn_files.specs.Uris as uris
 use Rattle.rn_files.specs.Uris.{parts_of}
-use Rattle.rn_files.specs.declared.maps.Map.{Map}
+use Rattle.rn_files.specs.declared.mapping.maps.Map.{Map}
 use Rattle.rn_files.specs.inside.FileUris.{file_uri}
 
 -- no segment is there that `..` takes away: the folder is the root, or nothing was entered

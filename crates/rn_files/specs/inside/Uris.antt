@@ -1,7 +1,7 @@
 -- The parts of a URI as the code has them.
 use Rattle.std.specs.Option.{option_copied}
 use Rattle.rn_files.specs.Uris.{UriParts}
-use Rattle.rn_files.specs.declared.uris.SplitUri.{SplitUri}
+use Rattle.rn_files.specs.declared.references.uris.SplitUri.{SplitUri}
 
 -- the parts of a URI that the code has cut
 abbrev pub parts_view : SplitUri → UriParts

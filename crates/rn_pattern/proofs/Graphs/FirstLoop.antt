@@ -8,7 +8,7 @@ use Rattle.std.specs.Option.{is_some}
 use Rattle.rn_pattern.specs.Graph.{row}
 use Rattle.rn_pattern.specs.Ranks.{Leads, by_edge, and_edge, HasNoLoop, IsFirstLoop, IsRanking}
 use Rattle.rn_pattern.specs.inside.Searching.{GroupingBy, Grouping, GroupsOn, IsClosed, IsLeastLooped, place_of}
-use Rattle.rn_pattern.specs.declared.search.Search.{Search}
+use Rattle.rn_pattern.specs.declared.adjacency.search.Search.{Search}
 use Rattle.rn_pattern.proofs.Graphs.Searches.Ranking.{none_met}
 
 module _ (rows : List (List ℕ)) where

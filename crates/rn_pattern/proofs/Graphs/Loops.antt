@@ -9,7 +9,7 @@ use Rattle.rn_pattern.specs.Loops.{LeadOnTo}
 use Rattle.rn_pattern.specs.Ranks.{Leads, by_edge, and_edge}
 use Rattle.rn_pattern.specs.inside.Marking.{Marks}
 use Rattle.rn_pattern.specs.inside.Walks.{IsWalk, WalksOn, first_of, node_at, place_before}
-use Rattle.rn_pattern.specs.declared.loops.Walk.{Walk}
+use Rattle.rn_pattern.specs.declared.adjacency.loops.Walk.{Walk}
 use Rattle.rn_pattern.proofs.Graphs.FirstLoop.{source_within}
 use Rattle.rn_pattern.proofs.Graphs.Marking.{listed_fit, marked_below, one_more}
 

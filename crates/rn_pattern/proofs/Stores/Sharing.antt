@@ -13,7 +13,7 @@ use Rattle.rn_pattern.specs.Store.{AddsOnly, KeepsTrees, StandsFor, node_view}
 use Rattle.rn_pattern.specs.Nodes.{node_members}
 use Rattle.rn_pattern.specs.inside.Stored.{NamesBelow, NameEarlier, knows, tree_at, trees_of_nodes}
 use Rattle.rn_pattern.specs.inside.Hashing.{node_parts, parts_decides, node_eq}
-use Rattle.rn_pattern.specs.declared.interned.Interned.{Interned}
+use Rattle.rn_pattern.specs.declared.tables.interned.Interned.{Interned}
 use Rattle.rn_pattern.specs.declared.node.Node.{Node}
 use Rattle.rn_pattern.specs.declared.node.NodeId.{NodeId}
 use Rattle.rn_pattern.proofs.Matches.StepsKeep.{list_of-trees_of}

@@ -3,7 +3,7 @@ use Rattle.std.specs.Prelude.{◌≡◌, ◌<◌}
 use Rattle.rn_pattern.specs.Tree.{Tree}
 use Rattle.rn_pattern.specs.Order.{tree_cmp}
 use Rattle.rn_pattern.specs.declared.node.NodeId.{NodeId}
-use Rattle.rn_pattern.specs.declared.node_table.Compared.{Compared}
+use Rattle.rn_pattern.specs.declared.tables.node_table.Compared.{Compared}
 
 -- it is the order of the patterns, or that of patterns within them, which have lower places
 abbrev pub IsCompared : (NodeId → Tree) → NodeId → NodeId → Compared → Type 0

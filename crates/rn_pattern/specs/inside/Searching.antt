@@ -4,9 +4,9 @@ use Rattle.std.specs.Prelude.{◌≡◌, ℕ, ◌+◌, ◌<◌, ◌≤◌, ◌�
 use Rattle.std.specs.Option.{is_some}
 use Rattle.rn_pattern.specs.Graph.{row}
 use Rattle.rn_pattern.specs.Ranks.{Leads, rank_of}
-use Rattle.rn_pattern.specs.declared.search.Search.{Search}
-use Rattle.rn_pattern.specs.declared.search.Stage.{Stage}
-use Rattle.rn_pattern.specs.declared.search.Stage.TheVariants.{New, Open, Closed}
+use Rattle.rn_pattern.specs.declared.adjacency.search.Search.{Search}
+use Rattle.rn_pattern.specs.declared.adjacency.search.Stage.{Stage}
+use Rattle.rn_pattern.specs.declared.adjacency.search.Stage.TheVariants.{New, Open, Closed}
 
 -- the node is the last of the list
 abbrev pub EndsWith : List ℕ → ℕ → Type 0

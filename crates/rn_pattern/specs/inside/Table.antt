@@ -3,7 +3,7 @@ use Rattle.std.specs.Prelude.{List, Bool}
 use Rattle.rn_pattern.specs.Tree.{Tree}
 use Rattle.rn_pattern.specs.inside.Stored.{knows, tree_at, trees_of_nodes}
 use Rattle.rn_pattern.specs.declared.node.NodeId.{NodeId}
-use Rattle.rn_pattern.specs.declared.node_table.NodeTable.{NodeTable}
+use Rattle.rn_pattern.specs.declared.tables.node_table.NodeTable.{NodeTable}
 
 abbrev pub trees : NodeTable → List Tree
 trees t = trees_of_nodes t.nodes.now

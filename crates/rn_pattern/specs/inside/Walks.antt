@@ -2,7 +2,7 @@
 use Rattle.std.specs.Prelude.{◌≡◌, ℕ, ◌<◌, true, List, ◌++◌, length, slice_index_or, Contains}
 use Rattle.rn_pattern.specs.Graph.{is_marked, row}
 use Rattle.rn_pattern.specs.inside.Marking.{Agrees}
-use Rattle.rn_pattern.specs.declared.loops.Walk.{Walk}
+use Rattle.rn_pattern.specs.declared.adjacency.loops.Walk.{Walk}
 
 -- the node that was met at this place
 abbrev pub node_at : Walk → ℕ → ℕ

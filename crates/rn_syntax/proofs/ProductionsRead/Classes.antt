@@ -2,8 +2,8 @@
 use Rattle.std.proofs.Common.{◌≡◌, ◌⊎◌, inl, inr, ℕ, Bool, true, false, List, [], ◌∷◌, ◌++◌, refl, ap, sym, ◌∙◌, subst, unwrap_or}
 use Rattle.std.proofs.lemmas.Bool.{false≢true}
 use Rattle.rn_syntax.specs.declared.token.Operator.TheVariants as o
-use Rattle.rn_syntax.specs.declared.terminals.Terminal as code
-use Rattle.rn_syntax.specs.declared.terminals.Terminal.TheVariants as c
+use Rattle.rn_syntax.specs.declared.productions.terminals.Terminal as code
+use Rattle.rn_syntax.specs.declared.productions.terminals.Terminal.TheVariants as c
 use Rattle.rn_syntax.specs.Terminal as x
 use Rattle.rn_syntax.specs.Terminal.{Terminal, Placed, ◌#◌, ident, operator, minus, left_brace, left_paren, right_paren}
 use Rattle.rn_syntax.specs.Tree as t

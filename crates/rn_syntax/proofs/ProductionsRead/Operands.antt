@@ -2,8 +2,8 @@
 use Rattle.std.proofs.Common.{◌≡◌, ℕ, Bool, true, false, List, [], ◌∷◌, Some, refl, ap, sym, ◌∙◌, subst, unwrap_or}
 use Rattle.std.proofs.lemmas.Bool.{false≢true}
 use Rattle.rn_syntax.specs.declared.token.Postfix.{Postfix}
-use Rattle.rn_syntax.specs.declared.terminals.Terminal as code
-use Rattle.rn_syntax.specs.declared.terminals.Terminal.TheVariants as c
+use Rattle.rn_syntax.specs.declared.productions.terminals.Terminal as code
+use Rattle.rn_syntax.specs.declared.productions.terminals.Terminal.TheVariants as c
 use Rattle.rn_text.specs.declared.source.Token.{Token}
 use Rattle.rn_syntax.specs.Terminal.{Terminal, Placed, ◌#◌, segment, postfix, minus, other}
 use Rattle.rn_syntax.specs.Tree as tree

@@ -3,8 +3,8 @@ use Rattle.std.proofs.Common.{◌≡◌, ℕ, true, false, [], ◌∷◌, ◌++�
 use Rattle.std.proofs.lemmas.Bool.{false≢true}
 use Rattle.rn_text.specs.Texts.{Text}
 use Rattle.rn_syntax.specs.declared.token.Method.TheVariants as m
-use Rattle.rn_syntax.specs.declared.terminals.Terminal as code
-use Rattle.rn_syntax.specs.declared.terminals.Terminal.TheVariants as c
+use Rattle.rn_syntax.specs.declared.productions.terminals.Terminal as code
+use Rattle.rn_syntax.specs.declared.productions.terminals.Terminal.TheVariants as c
 use Rattle.rn_syntax.specs.Terminal.{Terminal, Placed, ◌#◌, ident, assign, segment, left_brace, right_brace}
 use Rattle.rn_syntax.specs.Tree.{Params}
 use Rattle.rn_syntax.specs.Grammar as g

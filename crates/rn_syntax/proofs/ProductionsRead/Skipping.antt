@@ -1,8 +1,8 @@
 -- Annotations, bracket by bracket, and what follows them.
 use Rattle.std.proofs.Common.{◌≡◌, ℕ, zero, suc, Bool, true, false, List, [], ◌∷◌, ◌⊎◌, inl, inr, refl, ap, sym, ◌∙◌, subst, unwrap_or, Bor}
 use Rattle.std.proofs.lemmas.Bool.{false≢true}
-use Rattle.rn_syntax.specs.declared.terminals.Terminal as code
-use Rattle.rn_syntax.specs.declared.terminals.Terminal.TheVariants as c
+use Rattle.rn_syntax.specs.declared.productions.terminals.Terminal as code
+use Rattle.rn_syntax.specs.declared.productions.terminals.Terminal.TheVariants as c
 use Rattle.rn_text.specs.declared.keywords.Keyword.{Keyword}
 use Rattle.rn_syntax.specs.Terminal as t
 use Rattle.rn_syntax.specs.Terminal.{Terminal, ◌#◌, left_bracket, right_bracket, follow, is_bracket}

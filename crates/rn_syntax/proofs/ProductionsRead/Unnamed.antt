@@ -3,8 +3,8 @@ use Rattle.std.proofs.Common.{◌≡◌, ℕ, Bool, true, false, List, ◌∷◌
 use Rattle.std.proofs.lemmas.Bool.{false≢true}
 use Rattle.rn_text.specs.declared.keywords.Keyword.{Keyword}
 use Rattle.rn_text.specs.declared.keywords.Keyword.TheVariants as k
-use Rattle.rn_syntax.specs.declared.terminals.Terminal as code
-use Rattle.rn_syntax.specs.declared.terminals.Terminal.TheVariants as c
+use Rattle.rn_syntax.specs.declared.productions.terminals.Terminal as code
+use Rattle.rn_syntax.specs.declared.productions.terminals.Terminal.TheVariants as c
 use Rattle.rn_syntax.specs.Terminal.{Terminal, Placed, ◌#◌, ident, keyword, prefixed, segment, left_paren, right_paren, other}
 use Rattle.rn_syntax.specs.Tree as tree
 use Rattle.rn_syntax.specs.Tree.{Datatype, Pattern}

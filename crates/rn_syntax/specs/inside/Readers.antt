@@ -13,8 +13,8 @@ use Rattle.rn_syntax.specs.inside.Follow.{Anything}
 use Rattle.rn_syntax.specs.inside.Sequence.{IsToken}
 use Rattle.rn_syntax.specs.declared.fault.Fault.{Fault}
 use Rattle.rn_syntax.specs.declared.fault.Fault.TheVariants as f
-use Rattle.rn_syntax.specs.declared.terminals.Terminal as code
-use Rattle.rn_syntax.specs.declared.terminals.Terminal.TheVariants as c
+use Rattle.rn_syntax.specs.declared.productions.terminals.Terminal as code
+use Rattle.rn_syntax.specs.declared.productions.terminals.Terminal.TheVariants as c
 
 -- there is a token at this index, if the code saw one
 abbrev pub IsInside : code.Terminal → ℕ → ℕ → Type 0

@@ -1,6 +1,6 @@
 use Rattle.rn_pattern.specs.inside.Stored.{trees_of_nodes}
-use Rattle.rn_pattern.specs.declared.interned.Interned.{Interned}
-use Rattle.rn_pattern.specs.declared.plain.Plain.{Plain}
+use Rattle.rn_pattern.specs.declared.tables.interned.Interned.{Interned}
+use Rattle.rn_pattern.specs.declared.tables.plain.Plain.{Plain}
 use Rattle.rn_pattern.proofs.CanonicalForms.BuiltCanonical.{stays_canonical}
 use Rattle.rn_pattern.proofs.laws.stores_stay_canonical.Goals as goal
 

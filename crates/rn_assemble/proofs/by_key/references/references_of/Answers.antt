@@ -6,7 +6,7 @@ use Rattle.rn_pattern.specs.Reached.{RefersTo}
 use Rattle.rn_pattern.specs.References.{RefersOutside}
 use Rattle.rn_pattern.specs.Graph.{rows_of}
 use Rattle.rn_pattern.proofs.Graphs.BuiltRows.{is_graph, rows_pushed, no_rows}
-use Rattle.rn_pattern.specs.declared.references.Reach.TheVariants.{Everywhere, OutsideElements}
+use Rattle.rn_pattern.specs.declared.adjacency.references.Reach.TheVariants.{Everywhere, OutsideElements}
 use Rattle.rn_assemble.specs.declared.including.pieces.Piece.{Piece}
 use Rattle.rn_assemble.specs.inside.Keyed.{key_at}
 use Rattle.rn_assemble.specs.inside.Referred.{AreLiveMarks, AreMarksOf, KeepsLeast, names_within, reference_view}

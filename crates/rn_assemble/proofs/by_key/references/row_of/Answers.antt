@@ -7,8 +7,8 @@ use Rattle.rn_pattern.proofs.Graphs.BuiltRows.{none_below}
 use Rattle.rn_pattern.specs.Graph.{AllBelow}
 use Rattle.rn_assemble.specs.inside.Referred.{AreNumbers, KeepsLeast, names_within, reference_view, within}
 use Rattle.rn_assemble.specs.inside.Views.{names_of}
-use Rattle.rn_pattern.specs.declared.references.Reach.{Reach}
-use Rattle.rn_pattern.specs.declared.references.Reach.TheVariants.{Everywhere, OutsideElements}
+use Rattle.rn_pattern.specs.declared.adjacency.references.Reach.{Reach}
+use Rattle.rn_pattern.specs.declared.adjacency.references.Reach.TheVariants.{Everywhere, OutsideElements}
 use Rattle.rn_assemble.proofs.Referring.LeastUndefined.{below_within, keeps_marked, keeps_none, keeps_unmarked, marked_name, names_more, no_numbers, no_reference, number_found}
 use Rattle.rn_assemble.proofs.by_key.references.row_of.Goals as goal
 use Rattle.rn_assemble.proofs.by_key.references.row_of.Goals.{then-not-has_mark, else-not-has_mark}

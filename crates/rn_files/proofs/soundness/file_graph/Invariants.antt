@@ -1,7 +1,0 @@
-use Rattle.std.proofs.Common.{◌≡◌, take}
-use Rattle.rn_pattern.specs.Graph.{rows_of}
-use Rattle.rn_files.specs.Sources.{edges_of}
-use Rattle.rn_files.proofs.soundness.file_graph.Given as goal
-
-abbrev pub invariant-loop-source : goal.invariant-loop-source
-invariant-loop-source l = rows_of l.edges ≡ edges_of (take l.source-index l.files)

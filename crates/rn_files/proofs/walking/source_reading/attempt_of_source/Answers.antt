@@ -1,0 +1,6 @@
+use Rattle.rn_files.specs.ReadableFiles.{IsReadFor}
+use Rattle.rn_files.proofs.FilesRead.{source_kept}
+use Rattle.rn_files.proofs.walking.source_reading.attempt_of_source.Goals as goal
+
+pub returns : goal.returns
+returns g c = source_kept (IsReadFor (g.F.Files.leads c.args._files.now) (g.F.Files.gives c.args._files.now) c.args._asked.now) c.args.source c.requires

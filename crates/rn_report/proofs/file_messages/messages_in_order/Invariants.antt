@@ -1,6 +1,0 @@
-use Rattle.rn_report.specs.Messages.{IsFew}
-use Rattle.rn_report.proofs.file_messages.messages_in_order.Given as goal
-
--- no more is told so far than may be
-abbrev pub invariant-loop-number : goal.invariant-loop-number
-invariant-loop-number l = IsFew l.told

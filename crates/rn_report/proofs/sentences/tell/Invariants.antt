@@ -1,6 +1,0 @@
-use Rattle.rn_report.specs.Messages.{IsFew}
-use Rattle.rn_report.proofs.sentences.tell.Given as goal
-
--- no more is told so far than may be
-abbrev pub invariant-loop-refusal : goal.invariant-loop-refusal
-invariant-loop-refusal l = IsFew l.told
