@@ -1,5 +1,4 @@
 pub mod Matches
-pub mod Trials
 pub mod CanonicalForms
 pub mod Ordered
 pub mod Stores

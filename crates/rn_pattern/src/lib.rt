@@ -6,10 +6,9 @@
 //! members of a choice or an interleave are put in one order. [`Plain`] keeps each pattern that it is asked for; in
 //! [`Interned`] equal patterns have equal ids.
 //!
-//! [`laws`] has what is proved of canonical patterns; [`examples`] has documents that are valid and documents that are
-//! not. [`name_classes`] has the restrictions on name classes (4.16). [`graph`], [`ranks`] and [`loops`] walk graphs
-//! whose nodes are numbers: definitions and what they refer to, modules and what they include. The edges of a graph are
-//! [`Rows`]; those of references, everywhere and outside elements, are [`ReferenceRows`].
+//! [`laws`] has what is proved of canonical patterns. [`name_classes`] has the restrictions on name classes (4.16).
+//! [`adjacency`] has graphs whose nodes are numbers: definitions and what they refer to, modules and what they include.
+//! The edges of a graph are [`Rows`]; those of references, everywhere and outside elements, are [`ReferenceRows`].
 //!
 //! [`boxes`] puts a value in a box of its own, or where it can be shared.
 //!
@@ -42,5 +41,4 @@ pub use tables::pattern_store::Patterns;
 pub use tables::plain::Plain;
 pub use tree::{Data, NameClass, Named, Pattern, Value};
 
-pub mod examples;
 pub mod laws;
