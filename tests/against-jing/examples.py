@@ -1,5 +1,5 @@
 #!/usr/bin/env python3
-"""Asks jing about the examples of matching in crates/rn_pattern/src/examples.rt: whether each document that is proved valid or not is so for jing.
+"""Asks jing about the examples of matching in crates/matching_examples/src/lib.rt: whether each document that is proved valid or not is so for jing.
 
 examples.py
 
@@ -13,7 +13,7 @@ import sys
 import tempfile
 
 HERE = os.path.dirname(os.path.abspath(__file__))
-EXAMPLES = os.path.join(HERE, "..", "..", "crates", "rn_pattern", "src", "examples.rt")
+EXAMPLES = os.path.join(HERE, "..", "..", "crates", "matching_examples", "src", "lib.rt")
 CLAUSE = re.compile(r"ensures (\w+) \{ (Accepts|Rejects) (.+) (no_library|numbers|spellings)\s+(.+) \}$", re.M)
 
 # the grammars and documents of the clauses, as RELAX NG compact syntax and XML
