@@ -8,6 +8,7 @@ ghost use Rattle.rn_assemble.specs.GrammarView.{grammar_view};
 ghost use Rattle.rn_assemble.specs.Refusal.{IsAssembled};
 ghost use Rattle.rn_assemble.specs.Refused.{IsFirstRefusal};
 ghost use Rattle.rn_assemble.specs.ShortTexts.{IsShortened, short_texts};
+ghost use Rattle.rn_assemble.specs.inside.Numbers.{key_numbers};
 ghost use Rattle.rn_assemble.specs.inside.Pieces.{AreKnownBy, OfKeys};
 ghost use Rattle.rn_assemble.specs.inside.ReferenceOrder.{AreDefinedKeys, IsReferenceOrder};
 ghost use Rattle.rn_assemble.specs.inside.Sound.{HasSoundReferences, IsUnsound};
@@ -22,7 +23,7 @@ use crate::including::inclusion::included_roots;
 use crate::including::segments::Segments;
 use crate::reading::contents::contents_of;
 use crate::reading::key_rows::KeyRows;
-use crate::reading::keys::{Keys, seed_of};
+use crate::reading::keys::{KeyId, Keys, seed_of};
 use crate::reading::named_modules::{NamedModule, read_modules, split_items};
 use crate::refusal::Refusal;
 use crate::resolving::constants::Constants;
@@ -127,13 +128,13 @@ fn check_references<'s>(
     keys: &Keys<'s>,
     rows: &KeyRows<'s>,
     segments: &Segments<'_, '_, '_>,
-    defined: &[usize],
-) -> Result<Vec<usize>, Refusal>
+    defined: &[KeyId],
+) -> Result<Vec<KeyId>, Refusal>
     requires { AreKnownBy (names_of keys.now) rows.now segments.now }
     ensures { OfKeys keys.now rows.now segments.now
-        (λ names cs. AreDefinedKeys names cs defined.now
+        (λ names cs. AreDefinedKeys names cs (key_numbers defined.now)
         → MatchResult result (λ order. HasSoundReferences cs
-        × IsReferenceOrder names cs order.items) (IsUnsound cs)) }
+        × IsReferenceOrder names cs (key_numbers order.items)) (IsUnsound cs)) }
 {
     let references = references_of(alloc, keys, rows, segments, defined)?;
     match key_order(alloc, &references)? {

@@ -171,12 +171,12 @@ module _ (modules : List NamedModule) (x y : Segments) (m j : ℕ) (s : Segment)
     | inr h ↦ subst (λ (l : List ℕ). IsStrictlyIncreasing l) (sym (noted.others a b h)) (are.rise a b)
   ]
 
-  placed : (n : ℕ) (t : Segment) → slice_get grown n ≡ Some t → (b : ℕ) × Contains (new_at t.module b) n
+  placed : (n : ℕ) (t : Segment) → slice_get grown n ≡ Some t → (b : ℕ) × Contains (new_at t.module.0 b) n
   placed n t e = elim (get_cases xs s n t e) [
-    | inl h ↦ let r = are.placed n t h in (r.0, still_placed t.module r.0 n r.1)
+    | inl h ↦ let r = are.placed n t h in (r.0, still_placed t.module.0 r.0 n r.1)
     | inr h ↦
         let at : Contains (new_at m j) (length xs) = subst (λ (l : List ℕ). Contains l (length xs)) (sym pushed) (Contains-push (old_at m j) (length xs)) in
-        let same : t.module ≡ m = ap (λ (r : Segment). r.module) h.1 ∙ has.module_is in
+        let same : t.module.0 ≡ m = ap (λ (r : Segment). r.module.0) h.1 ∙ has.module_is in
         (j, subst (λ a. Contains (new_at a j) n) (sym same) (subst (λ i. Contains (new_at m j) i) (sym h.0) at))
   ]
 
@@ -220,7 +220,7 @@ module _ (modules : List NamedModule) (x y : Segments) (m j : ℕ) (s : Segment)
     before = omega (arith, e);
     alike = λ f h.
         let same : f ≡ s = one_some f s (sym h ∙ ap (slice_get grown) e ∙ get_last xs s) in
-        (ap (λ (r : Segment). r.module) same, ap (λ (r : Segment). r.from) same, ap (λ (r : Segment). r.to) same, ap (λ (r : Segment). r.first) same, ap (λ (r : Segment). rc_str_bytes r.context.inherited.now) same);
+        (ap (λ (r : Segment). r.module.0) same, ap (λ (r : Segment). r.from) same, ap (λ (r : Segment). r.to) same, ap (λ (r : Segment). r.first) same, ap (λ (r : Segment). rc_str_bytes r.context.inherited.now) same);
   }
 
   first_now : IsFirstLike grown (length xs) s
@@ -251,7 +251,7 @@ module _ (modules : List NamedModule) (x y : Segments) (m j : ℕ) (s : Segment)
     each = subst (λ (l : List Segment). AllByRecursion (IsSegment modules y.contents.now) l) (sym list_is)
         (subst (λ (cs : List Contents). AllByRecursion (IsSegment modules cs) grown) (sym contents_is) (each_append (IsSegment modules x.contents.now) xs (s ∷ []) are.each (is, tt)));
     first = subst (λ (l : List Segment). (n : ℕ) (t : Segment) → slice_get l n ≡ Some t → IsFirstLike l n t) (sym list_is) firsts;
-    placed = subst (λ (l : List Segment). (n : ℕ) (t : Segment) → slice_get l n ≡ Some t → (b : ℕ) × Contains (new_at t.module b) n) (sym list_is) placed;
+    placed = subst (λ (l : List Segment). (n : ℕ) (t : Segment) → slice_get l n ≡ Some t → (b : ℕ) × Contains (new_at t.module.0 b) n) (sym list_is) placed;
     numbered = subst (λ (l : List Segment). (a b n : ℕ) → Contains (new_at a b) n → (t : Segment) × (slice_get l n ≡ Some t) × HasNumber y.contents.now a b t) (sym list_is)
         (subst (λ (cs : List Contents). (a b n : ℕ) → Contains (new_at a b) n → (t : Segment) × (slice_get grown n ≡ Some t) × HasNumber cs a b t) (sym contents_is) numbered);
     rise = rise;

@@ -12,6 +12,7 @@ use Rattle.rn_assemble.specs.declared.reading.contents.Include.{Include}
 use Rattle.rn_assemble.specs.Components.{NamedModule}
 pub use Rattle.rn_assemble.specs.inside.Keyed.{texts_of}
 use Rattle.rn_assemble.specs.inside.Contained.{Inclusion}
+use Rattle.rn_assemble.specs.inside.Numbers.{module_number}
 
 -- the names of the keys, in the order of their numbers
 abbrev pub names_of : Keys → List Text
@@ -44,7 +45,7 @@ abbrev pub AreInOrder : List code_module.NamedModule → Type 0
 AreInOrder modules = IsStrictlySortedBy text_cmp (module_names modules)
 
 abbrev pub inclusion_view : Include → Inclusion
-inclusion_view i = record { module_at = i.module; inherit = prefix_view i.inherit; first = i.from; end = i.to }
+inclusion_view i = record { module_at = module_number i.module; inherit = prefix_view i.inherit; first = i.from; end = i.to }
 
 -- contents have got these includes behind the old ones
 abbrev pub AddsIncludes : (old new : Contents) → List Inclusion → Type 0

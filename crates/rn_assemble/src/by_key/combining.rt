@@ -14,6 +14,7 @@ ghost use Rattle.rn_assemble.specs.Resolve.{resolved_pattern};
 ghost use Rattle.rn_assemble.specs.inside.ContextBindings.{InContext};
 ghost use Rattle.rn_assemble.specs.inside.JoinedDefinitions.{AreDefinitions};
 ghost use Rattle.rn_assemble.specs.inside.Joining.{CanBeJoined, IsJoinedGrammar, IsMisnamed};
+ghost use Rattle.rn_assemble.specs.inside.Numbers.{key_number, key_numbers};
 ghost use Rattle.rn_assemble.specs.inside.Patterns.{AddsResolved, AreResolved, IsJoined, IsJoinedTo, IsResolved, lesser, numbers_from};
 ghost use Rattle.rn_assemble.specs.inside.Pieces.{IsKnownRow, IsOnlyComponent, IsPiece, OfKeys, OfPieces, OfRow};
 ghost use Rattle.rn_assemble.specs.inside.ReferenceOrder.{AreDefinedKeys};
@@ -27,7 +28,7 @@ use crate::grammar::{Definitions, Grammar};
 use crate::including::pieces::Piece;
 use crate::including::segments::Segments;
 use crate::reading::key_rows::{KeyRows, WrittenComponent};
-use crate::reading::keys::{Keys, START};
+use crate::reading::keys::{KeyId, Keys, START};
 use crate::refusal::Refusal;
 use crate::resolving::context::Context;
 use crate::resolving::nodes::{choice, interleave, share_pattern};
@@ -56,16 +57,17 @@ pub(crate) fn joined_grammar(
     keys: &Keys<'_>,
     rows: KeyRows<'_>,
     segments: &Segments<'_, '_, '_>,
-    defined: &[usize],
+    defined: &[KeyId],
     order: Vec<usize>,
     seed: &Seed,
 ) -> Result<Grammar, Refusal>
     requires { (ms : List specs.NamedModule) × (cs : List specs.Component)
         × IsStrictlySortedBy text_cmp (names_of keys.now)
         × AreRows ms (names_of keys.now) rows.rows.items × AreSegmentsOf ms segments.now cs
-        × CanBeJoined (names_of keys.now) cs defined.now order.items }
+        × CanBeJoined (names_of keys.now) cs (key_numbers defined.now) order.items }
     ensures { OfKeys keys.now rows.entry segments.now
-        (λ names cs. AreDefinedKeys names cs defined.now → specs.has_key specs.start_key cs ≡ true
+        (λ names cs. AreDefinedKeys names cs (key_numbers defined.now)
+        → specs.has_key specs.start_key cs ≡ true
         → MatchResult result (IsJoinedGrammar cs) (IsMisnamed cs)) }
 {
     let mut rows = rows;
@@ -93,17 +95,17 @@ fn definitions(
     keys: &Keys<'_>,
     rows: &mut KeyRows<'_>,
     segments: &Segments<'_, '_, '_>,
-    defined: &[usize],
+    defined: &[KeyId],
     seed: &Seed,
 ) -> Result<(Definitions, Vec<Vec<u32>>), Refusal>
     requires { (ms : List specs.NamedModule) × (cs : List specs.Component)
         × IsStrictlySortedBy text_cmp (names_of keys.now)
         × AreNameRows ms (names_of keys.now) rows.old.rows.items × AreSegmentsOf ms segments.now cs
-        × AreDefinedKeys (names_of keys.now) cs defined.now }
+        × AreDefinedKeys (names_of keys.now) cs (key_numbers defined.now) }
     ensures { (ms : List specs.NamedModule) (cs : List specs.Component)
         → IsStrictlySortedBy text_cmp (names_of keys.now)
         → AreNameRows ms (names_of keys.now) rows.old.rows.items → AreSegmentsOf ms segments.now cs
-        → AreDefinedKeys (names_of keys.now) cs defined.now
+        → AreDefinedKeys (names_of keys.now) cs (key_numbers defined.now)
         → ¬ BreaksNameRules cs specs.start_key → MatchResult result
         (λ made. AreDefinitions cs made.0.entries made.1.items) (IsMisnamed cs) }
 {
@@ -133,8 +135,8 @@ fn definitions(
 }
 
 /// The lesser of a key and the one that there may be.
-fn lesser(held: Option<usize>, other: usize) -> usize
-    ensures { Some result ≡ lesser other held }
+fn lesser(held: Option<KeyId>, other: KeyId) -> KeyId
+    ensures { Some result.0 ≡ lesser other.0 (key_number held) }
 {
     match held {
         Some(held) if held <= other => held,

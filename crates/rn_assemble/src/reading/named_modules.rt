@@ -18,6 +18,10 @@ use rn_syntax::{Item, Module, SyntaxFault, parse};
 use rn_text::{TextFault, Token, read_tokens};
 use std::alloc::{AllocError, Global};
 
+/// The number of a module among those of a set, in the order of their names.
+#[derive(Clone, Copy, Debug, PartialEq, Eq, PartialOrd, Ord)]
+pub(crate) struct ModuleId(pub(crate) usize);
+
 /// An effective module: its name and its tree.
 #[derive(Drop)]
 pub(crate) struct NamedModule<'a> {
