@@ -19,7 +19,7 @@ returns-else-eq c =
     let b = c.args.brought.now in
     let no' = sym c.if-eq.ensures in
     let point = IsPartitionPoint-from_clause (is_before b.module.0 b.own_from) _ _ c.partition_point-at.ensures.partitioned (row_parted row c.requires b.module.0 b.own_from) (λ a r q k. search rules) in
-    no' ∙ sym (none_of_other row c.requires b.module.0 b.own_from b.own_to c.partition_point-at.result point c.in-Some.component.now (slice_get_read row _ c.partition_point-at.result c.in-Some.component.now refl (ltb-true c.partition_point-at.result _ (sym c.in-Some.ensures.lookup.0)) c.in-Some.ensures.lookup.1) no')
+    c.eq.ensures ∙ no' ∙ sym (none_of_other row c.requires b.module.0 b.own_from b.own_to c.partition_point-at.result point c.in-Some.component.now (slice_get_read row _ c.partition_point-at.result c.in-Some.component.now refl (ltb-true c.partition_point-at.result _ (sym c.in-Some.ensures.lookup.0)) c.in-Some.ensures.lookup.1) no')
 
 pub returns-in-None : goal.returns-in-None
 returns-in-None c =
