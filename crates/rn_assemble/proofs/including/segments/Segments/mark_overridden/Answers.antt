@@ -3,7 +3,7 @@ use Rattle.std.specs.Prelude.{Contains}
 use Rattle.std.proofs.lemmas.Bool.{false_from_ne_true, false≢true}
 use Rattle.rn_assemble.specs.declared.including.segments.FollowedInclude.{FollowedInclude}
 use Rattle.rn_assemble.specs.inside.Pieces.{overrides_in}
-use Rattle.rn_assemble.specs.inside.Runs.{ArePiecesIn, marked}
+use Rattle.rn_assemble.specs.inside.Runs.{ArePiecesIn}
 use Rattle.rn_assemble.proofs.KeyPieces.Marks.{marked_rise, none_marked, step_marked, step_none, step_same}
 use Rattle.rn_assemble.proofs.KeyPieces.RowOrder.{row_rises}
 use Rattle.rn_assemble.proofs.including.segments.Segments.mark_overridden.Goals as goal
