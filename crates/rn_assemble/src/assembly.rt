@@ -11,7 +11,7 @@ ghost use Rattle.rn_assemble.specs.ShortTexts.{IsShortened, short_texts};
 ghost use Rattle.rn_assemble.specs.inside.Pieces.{AreKnownBy, OfKeys};
 ghost use Rattle.rn_assemble.specs.inside.ReferenceOrder.{AreDefinedKeys, IsReferenceOrder};
 ghost use Rattle.rn_assemble.specs.inside.Sound.{HasSoundReferences, IsUnsound};
-ghost use Rattle.rn_assemble.specs.inside.Views.{AreInOrder, AreNamed, modules_view, names_of};
+ghost use Rattle.rn_assemble.specs.inside.Views.{AreInOrder, AreNamed, key_numbers, modules_view, names_of};
 
 use crate::by_key::checks::{check_methods, check_overrides};
 use crate::by_key::combining::joined_grammar;
@@ -22,7 +22,7 @@ use crate::including::inclusion::included_roots;
 use crate::including::segments::Segments;
 use crate::reading::contents::contents_of;
 use crate::reading::key_rows::KeyRows;
-use crate::reading::keys::{Keys, seed_of};
+use crate::reading::keys::{KeyId, Keys, seed_of};
 use crate::reading::named_modules::{NamedModule, read_modules, split_items};
 use crate::refusal::Refusal;
 use crate::resolving::constants::Constants;
@@ -94,8 +94,7 @@ fn join_modules(
     join_keys(alloc, modules.as_slice(), &keys, rows, &segments, seed)
 }
 
-/// The grammar to which the modules' components are joined, or the first refusal that is true of them. The modules may
-/// be without their items.
+/// The grammar to which the modules' components are joined, or the first refusal that stands. Modules need no items here.
 fn join_keys<'s>(
     alloc: Global,
     modules: &[NamedModule<'_>],
@@ -127,13 +126,13 @@ fn check_references<'s>(
     keys: &Keys<'s>,
     rows: &KeyRows<'s>,
     segments: &Segments<'_, '_, '_>,
-    defined: &[usize],
-) -> Result<Vec<usize>, Refusal>
+    defined: &[KeyId],
+) -> Result<Vec<KeyId>, Refusal>
     requires { AreKnownBy (names_of keys.now) rows.now segments.now }
     ensures { OfKeys keys.now rows.now segments.now
-        (λ names cs. AreDefinedKeys names cs defined.now
+        (λ names cs. AreDefinedKeys names cs (key_numbers defined.now)
         → MatchResult result (λ order. HasSoundReferences cs
-        × IsReferenceOrder names cs order.items) (IsUnsound cs)) }
+        × IsReferenceOrder names cs (key_numbers order.items)) (IsUnsound cs)) }
 {
     let references = references_of(alloc, keys, rows, segments, defined)?;
     match key_order(alloc, &references)? {

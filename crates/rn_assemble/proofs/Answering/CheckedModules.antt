@@ -10,7 +10,7 @@ use Rattle.rn_pattern.proofs.Ordered.InOrder.{contained_each}
 use Rattle.rn_assemble.specs.declared.grammar.Grammar.{Grammar}
 use Rattle.rn_assemble.specs.declared.reading.key_rows.KeyRows.{KeyRows}
 use Rattle.rn_assemble.specs.declared.refusal.Refusal as code
-use Rattle.rn_assemble.specs.declared.including.segments.Brought.{Brought}
+use Rattle.rn_assemble.specs.declared.including.segments.FollowedInclude.{FollowedInclude}
 use Rattle.rn_assemble.specs.declared.including.segments.Segments.{Segments}
 use Rattle.rn_assemble.specs.inside.Bringing.{IsLackIn}
 use Rattle.rn_assemble.specs.inside.Checked.{AreExpanded, IsGrammarOf, IsFirstOfModules, KeepsWellFormed}
@@ -22,7 +22,6 @@ use Rattle.rn_assemble.specs.inside.Included.{AreIncluded}
 use Rattle.rn_assemble.specs.inside.Joining.{CanBeJoined, IsJoinedGrammar, IsMisnamed}
 use Rattle.rn_assemble.specs.inside.Lacking.{LacksFrom}
 use Rattle.rn_assemble.specs.inside.Methods.{CanCombine}
-use Rattle.rn_assemble.specs.inside.Pieces.{AreKnownBy}
 use Rattle.rn_assemble.specs.inside.Rows.{AreRows}
 use Rattle.rn_assemble.specs.inside.Segments.{AreSegmentsOf, IsBrought}
 use Rattle.rn_assemble.specs.Refusal.{Lacks}
@@ -52,11 +51,8 @@ expanded modules names rows x numbers o flat a are segments found = record {
 }
 
 module _ (modules : List NamedModule) (names : List Text) (rows : KeyRows) (x : Segments) (h : AreExpanded modules names rows x) where
-  pub known_by : AreKnownBy names rows x
-  known_by = record { modules = modules; components = set_components modules; in_order = h.in_order; rows_are = h.rows_are; segments_are = h.segments_are }
-
   -- the module of each include that was followed is there
-  pub brought_within : (b : Brought) → Contains x.brought.items b → b.«module» < length modules
+  pub brought_within : (b : FollowedInclude) → Contains x.brought.items b → b.«module».0 < length modules
   brought_within b c = (contained_each (IsBrought modules x.contents.now x.list.items) x.brought.items h.segments_are.brought b c).module_within
 
   pub passed_includes : NoneBelow modules 5

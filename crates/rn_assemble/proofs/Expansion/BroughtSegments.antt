@@ -14,7 +14,7 @@ use Rattle.rn_text.specs.Texts.{Text}
 use Rattle.rn_assemble.specs.Components.{Component, Key, NamedModule, has_key, same_key, without_overridden}
 use Rattle.rn_assemble.specs.declared.reading.contents.Contents.{Contents}
 use Rattle.rn_assemble.specs.declared.resolving.context.Context.{Context}
-use Rattle.rn_assemble.specs.declared.including.segments.Brought.{Brought}
+use Rattle.rn_assemble.specs.declared.including.segments.FollowedInclude.{FollowedInclude}
 use Rattle.rn_assemble.specs.declared.including.segments.Segment.{Segment}
 use Rattle.rn_assemble.specs.declared.including.segments.Segments.{Segments}
 use Rattle.rn_assemble.specs.inside.Bringing.{Brings, CanBring, CanList, IsLackIn}
@@ -39,10 +39,10 @@ module _ (modules : List NamedModule) where
   lack_in_none list t k h = omega (arith, h.among.1)
 
   -- the same includes among more segments
-  lacks_grown : (list more : List Segment) (b : Brought) (k : Key) → b.from ≤ b.to → b.to ≤ length list → some_has_key modules k (slice_range (list ++ more) b.from b.to) ≡ some_has_key modules k (slice_range list b.from b.to)
+  lacks_grown : (list more : List Segment) (b : FollowedInclude) (k : Key) → b.from ≤ b.to → b.to ≤ length list → some_has_key modules k (slice_range (list ++ more) b.from b.to) ≡ some_has_key modules k (slice_range list b.from b.to)
   lacks_grown list more b k l m = ap (some_has_key modules k) (range_front list more b.from b.to l m)
 
-  brought_grown : (contents : List Contents) (list more : List Segment) (bs : List Brought) → AllByRecursion (IsBrought modules contents list) bs → AllByRecursion (IsBrought modules contents (list ++ more)) bs
+  brought_grown : (contents : List Contents) (list more : List Segment) (bs : List FollowedInclude) → AllByRecursion (IsBrought modules contents list) bs → AllByRecursion (IsBrought modules contents (list ++ more)) bs
   brought_grown contents list more bs h = each_to (IsBrought modules contents list) (IsBrought modules contents (list ++ more)) bs (λ b i. record {
     module_within = i.module_within;
     own_ordered = i.own_ordered;
@@ -120,9 +120,9 @@ module _ (modules : List NamedModule) where
     longer = ap length k.list_is ∙ length-append y.list.items k.segments
 
     there : AllByRecursion (IsBrought modules y.contents.now y.list.items) h.followed
-    there = each_behind (IsBrought modules y.contents.now y.list.items) x.brought.items h.followed (subst (λ (bs : List Brought). AllByRecursion (IsBrought modules y.contents.now y.list.items) bs) h.brought_is h.can.brought)
+    there = each_behind (IsBrought modules y.contents.now y.list.items) x.brought.items h.followed (subst (λ (bs : List FollowedInclude). AllByRecursion (IsBrought modules y.contents.now y.list.items) bs) h.brought_is h.can.brought)
 
-    same_keys : (b : Brought) (j : Key) → Contains h.followed b → some_has_key modules j (slice_range z.list.items b.from b.to) ≡ some_has_key modules j (slice_range y.list.items b.from b.to)
+    same_keys : (b : FollowedInclude) (j : Key) → Contains h.followed b → some_has_key modules j (slice_range z.list.items b.from b.to) ≡ some_has_key modules j (slice_range y.list.items b.from b.to)
     same_keys b j c =
         let i = contained_each (IsBrought modules y.contents.now y.list.items) h.followed there b c in
         ap (λ (l : List Segment). some_has_key modules j (slice_range l b.from b.to)) k.list_is ∙ lacks_grown y.list.items k.segments b j i.ordered i.within
@@ -149,24 +149,24 @@ module _ (modules : List NamedModule) where
       list_is = k.list_is ∙ ap (λ l. l ++ k.segments) h.list_is ∙ append_assoc x.list.items h.segments k.segments;
       followed = h.followed ++ k.followed;
       brought_is = k.brought_is ∙ ap (λ l. l ++ k.followed) h.brought_is ∙ append_assoc x.brought.items h.followed k.followed;
-      inside = each_append (λ (b : Brought). (length x.list.items ≤ b.from) × (b.to ≤ length z.list.items)) h.followed k.followed
-          (each_to (λ (b : Brought). (length x.list.items ≤ b.from) × (b.to ≤ length y.list.items)) (λ (b : Brought). (length x.list.items ≤ b.from) × (b.to ≤ length z.list.items)) h.followed (λ b i. (i.0, omega (arith, i.1, longer))) h.inside)
-          (each_to (λ (b : Brought). (length y.list.items ≤ b.from) × (b.to ≤ length z.list.items)) (λ (b : Brought). (length x.list.items ≤ b.from) × (b.to ≤ length z.list.items)) k.followed (λ b i. (omega (arith, i.0, size), i.1)) k.inside);
+      inside = each_append (λ (b : FollowedInclude). (length x.list.items ≤ b.from) × (b.to ≤ length z.list.items)) h.followed k.followed
+          (each_to (λ (b : FollowedInclude). (length x.list.items ≤ b.from) × (b.to ≤ length y.list.items)) (λ (b : FollowedInclude). (length x.list.items ≤ b.from) × (b.to ≤ length z.list.items)) h.followed (λ b i. (i.0, omega (arith, i.1, longer))) h.inside)
+          (each_to (λ (b : FollowedInclude). (length y.list.items ≤ b.from) × (b.to ≤ length z.list.items)) (λ (b : FollowedInclude). (length x.list.items ≤ b.from) × (b.to ≤ length z.list.items)) k.followed (λ b i. (omega (arith, i.0, size), i.1)) k.inside);
       left = left_both modules h.followed k.followed (length x.list.items) (length y.list.items) h.segments k.segments size
-          (each_to (λ (b : Brought). (length x.list.items ≤ b.from) × (b.to ≤ length y.list.items)) (λ (b : Brought). b.to ≤ length y.list.items) h.followed (λ b i. i.1) h.inside)
-          (each_to (λ (b : Brought). (length y.list.items ≤ b.from) × (b.to ≤ length z.list.items)) (λ (b : Brought). length y.list.items ≤ b.from) k.followed (λ b i. i.0) k.inside) ∙ (λ i. h.left i ++ k.left i);
+          (each_to (λ (b : FollowedInclude). (length x.list.items ≤ b.from) × (b.to ≤ length y.list.items)) (λ (b : FollowedInclude). b.to ≤ length y.list.items) h.followed (λ b i. i.1) h.inside)
+          (each_to (λ (b : FollowedInclude). (length y.list.items ≤ b.from) × (b.to ≤ length z.list.items)) (λ (b : FollowedInclude). length y.list.items ≤ b.from) k.followed (λ b i. i.0) k.inside) ∙ (λ i. h.left i ++ k.left i);
       keys = λ j. some_append modules j h.segments k.segments ∙ (λ i. h.keys j i || k.keys j i) ∙ sym (list_any-append (λ (c : Component). same_key j c.key) all more);
       lacks = λ t j. (to_parts t j, from_parts t j);
     }
 
   -- an include b that brought in what stands behind, and overrides what its own components have
-  module _ (x y : Segments) (v : Vec Brought Global) (cs own : List Component) (L : Text → Key → Type 0) (h : Brings modules x y cs cs L) (b : Brought) (pushed : v.items ≡ y.brought.items ++ b ∷ []) (is : IsBrought modules y.contents.now y.list.items b)
+  module _ (x y : Segments) (v : Vec FollowedInclude Global) (cs own : List Component) (L : Text → Key → Type 0) (h : Brings modules x y cs cs L) (b : FollowedInclude) (pushed : v.items ≡ y.brought.items ++ b ∷ []) (is : IsBrought modules y.contents.now y.list.items b)
       (begins : b.from ≡ length x.list.items) (ends : b.to ≡ length y.list.items) (has : (k : Key) → overrides modules k b ≡ has_key k own) where
     abbrev z : Segments
     z = record y { brought = v }
 
     abbrev OwnLack : Text → Key → Type 0
-    OwnLack t k = (name_at modules b.module ≡ t) × ((has_key k own && not (has_key k cs)) ≡ true)
+    OwnLack t k = (name_at modules b.module.0 ≡ t) × ((has_key k own && not (has_key k cs)) ≡ true)
 
     in_range : slice_range y.list.items b.from b.to ≡ h.segments
     in_range = (λ i. slice_range (h.list_is i) (begins i) ((ends ∙ ap length h.list_is) i)) ∙ range_behind x.list.items h.segments
@@ -182,10 +182,10 @@ module _ (modules : List NamedModule) where
     to_own t k l = elim (Contains-push_cases h.followed b l.include l.among) [
       | inl c ↦ inr ((h.lacks t k).0 (record { include = l.include; among = c; name_is = l.name_is; lacks = l.lacks }))
       | inr e ↦
-          let lack : IsLackOf modules y.list.items b k = subst (λ (d : Brought). IsLackOf modules y.list.items d k) (sym e) l.lacks in
+          let lack : IsLackOf modules y.list.items b k = subst (λ (d : FollowedInclude). IsLackOf modules y.list.items d k) (sym e) l.lacks in
           let here : has_key k own ≡ true = sym (has k) ∙ lack.0 in
           let none : has_key k cs ≡ false = sym (brought_keys k) ∙ lack.1 in
-          inl (subst (λ (d : Brought). name_at modules d.module ≡ t) (sym e) l.name_is, λ i. here i && not (none i))
+          inl (subst (λ (d : FollowedInclude). name_at modules d.module.0 ≡ t) (sym e) l.name_is, λ i. here i && not (none i))
     ]
 
     from_own : (t : Text) (k : Key) → OwnLack t k ⊎ L t k → IsLackIn modules y.list.items (h.followed ++ b ∷ []) t k
@@ -208,14 +208,14 @@ module _ (modules : List NamedModule) where
           can = record {
             can = h.can.can;
             are = same_segments;
-            brought = subst (λ (bs : List Brought). AllByRecursion (IsBrought modules y.contents.now y.list.items) bs) (sym pushed) (each_append (IsBrought modules y.contents.now y.list.items) y.brought.items (b ∷ []) h.can.brought (is, tt));
+            brought = subst (λ (bs : List FollowedInclude). AllByRecursion (IsBrought modules y.contents.now y.list.items) bs) (sym pushed) (each_append (IsBrought modules y.contents.now y.list.items) y.brought.items (b ∷ []) h.can.brought (is, tt));
           };
           contents = h.contents;
           segments = h.segments;
           list_is = h.list_is;
           followed = h.followed ++ b ∷ [];
           brought_is = pushed ∙ ap (λ l. l ++ b ∷ []) h.brought_is ∙ append_assoc x.brought.items h.followed (b ∷ []);
-          inside = each_append (λ (d : Brought). (length x.list.items ≤ d.from) × (d.to ≤ length y.list.items)) h.followed (b ∷ []) h.inside ((omega (arith, begins), omega (arith, ends)), tt);
+          inside = each_append (λ (d : FollowedInclude). (length x.list.items ≤ d.from) × (d.to ≤ length y.list.items)) h.followed (b ∷ []) h.inside ((omega (arith, begins), omega (arith, ends)), tt);
           left = left_overridden modules h.followed b own (length x.list.items) h.segments (omega (arith, begins)) (omega (arith, ends, size)) has ∙ ap (λ l. without_overridden l own) h.left;
           keys = h.keys;
           lacks = λ t k. (to_own t k, from_own t k);

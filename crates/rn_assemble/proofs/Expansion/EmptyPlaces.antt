@@ -5,7 +5,7 @@ use Rattle.std.specs.declared.alloc.Global.{Global}
 use Rattle.std.specs.List.{AllByRecursion}
 use Rattle.std.specs.List.Sorted.{IsStrictlyIncreasing}
 use Rattle.rn_assemble.specs.Components.{NamedModule}
-use Rattle.rn_assemble.specs.declared.including.segments.Brought.{Brought}
+use Rattle.rn_assemble.specs.declared.including.segments.FollowedInclude.{FollowedInclude}
 use Rattle.rn_assemble.specs.declared.including.segments.Segment.{Segment}
 use Rattle.rn_assemble.specs.declared.including.segments.Segments.{Segments}
 use Rattle.rn_assemble.specs.inside.Bringing.{CanBring, CanList}
@@ -37,5 +37,5 @@ module _ (modules : List NamedModule) (x : Segments) (can : CanList modules x.co
       numbered = λ m j n c. absurd (nothing_in m j n c);
       rise = λ m j. subst (λ (l : List ℕ). IsStrictlyIncreasing l) (sym (empty m j)) (λ k l. absurd (omega (arith, l)));
     };
-    brought = subst (λ (l : List Brought). AllByRecursion (IsBrought modules x.contents.now x.list.items) l) (sym brought_is) tt;
+    brought = subst (λ (l : List FollowedInclude). AllByRecursion (IsBrought modules x.contents.now x.list.items) l) (sym brought_is) tt;
   }

@@ -7,7 +7,9 @@ use Rattle.std.proofs.lemmas.Grind.{get_or-set_at}
 use Rattle.std.proofs.lemmas.List.{get_or-set_other, take_more}
 use Rattle.std.proofs.lemmas.List.Folds.{concat-append, list_any-append, list_any_more}
 use Rattle.rn_pattern.specs.Graph.{is_marked, row}
+use Rattle.rn_assemble.specs.declared.reading.named_modules.ModuleId.{ModuleId}
 use Rattle.rn_assemble.specs.inside.Inclusions.{entries}
+use Rattle.rn_assemble.specs.inside.Views.{module_numbers}
 
 or_last : (a b : Bool) → true ≡ (a || (b || true))
 or_last true b = refl
@@ -49,23 +51,23 @@ row_marked seen seen' rows k x l h e =
 
 -- ---- the nodes without a mark, in order
 
--- the number of a mark that is not set
-abbrev pub number : ℕ × Bool → Option ℕ
-number p = cond (not p.1) (Some p.0) None
+-- the module of a mark that is not set
+abbrev pub unmarked : ℕ × Bool → Option ModuleId
+unmarked p = cond (not p.1) (Some (record { 0 = p.0 })) None
 
-picked_at : (n : ℕ) (b : Bool) (ns : List ℕ) → cons_option (number (n, b)) ns ≡ cond (not b) (n ∷ ns) ns
-picked_at n true ns = refl
-picked_at n false ns = refl
+picked_at : (n : ℕ) (b : Bool) (ms : List ModuleId) → module_numbers (cons_option (unmarked (n, b)) ms) ≡ cond (not b) (n ∷ module_numbers ms) (module_numbers ms)
+picked_at n true ms = refl
+picked_at n false ms = refl
 
-picked : (test : ℕ → Bool) (seen : List Bool) (n : ℕ) → ((k : ℕ) → is_marked seen k ≡ test (n + k)) → filter_map number (enumerate_from n seen) ≡ filter (λ x. not (test x)) (range_with_len n (length seen))
+picked : (test : ℕ → Bool) (seen : List Bool) (n : ℕ) → ((k : ℕ) → is_marked seen k ≡ test (n + k)) → module_numbers (filter_map unmarked (enumerate_from n seen)) ≡ filter (λ x. not (test x)) (range_with_len n (length seen))
 picked test [] n h = refl
 picked test (b ∷ seen) n h =
     let here : n + 0 ≡ n = omega arith in
     let rest = picked test seen (n + 1) (λ k. let e : n + suc k ≡ n + 1 + k = omega arith in h (suc k) ∙ ap test e) in
     let kept = filter (λ x. not (test x)) (range_with_len (n + 1) (length seen)) in
-    ap (cons_option (number (n, b))) rest ∙ picked_at n b kept ∙ ap (λ a. cond (not a) (n ∷ kept) kept) (h 0 ∙ ap test here)
+    picked_at n b (filter_map unmarked (enumerate_from (n + 1) seen)) ∙ ap (λ ns. cond (not b) (n ∷ ns) ns) rest ∙ ap (λ a. cond (not a) (n ∷ kept) kept) (h 0 ∙ ap test here)
 
-pub unmarked_entries : (seen : List Bool) (rows : List (List ℕ)) → length seen ≡ length rows → ((x : ℕ) → is_marked seen x ≡ list_any (λ y. eqb x y) (concat rows)) → filter_map number (enumerate_from 0 seen) ≡ entries rows
+pub unmarked_entries : (seen : List Bool) (rows : List (List ℕ)) → length seen ≡ length rows → ((x : ℕ) → is_marked seen x ≡ list_any (λ y. eqb x y) (concat rows)) → module_numbers (filter_map unmarked (enumerate_from 0 seen)) ≡ entries rows
 unmarked_entries seen rows size h =
     picked (λ x. list_any (λ y. eqb x y) (concat rows)) seen 0 (λ k. let e : k ≡ 0 + k = omega arith in h k ∙ ap (λ x. list_any (λ y. eqb x y) (concat rows)) e)
     ∙ ap (λ n. filter (λ x. not (list_any (λ y. eqb x y) (concat rows))) (range_with_len 0 n)) size

@@ -138,8 +138,8 @@ module _ (depth : ℕ) (modules : List NamedModule) (x u : Text) (m : NamedModul
   abbrev is : List Inclusion
   is = inclusions modules 0 m.tree.items
 
-  abbrev Brought : Inclusion → Type 0
-  Brought i = InclusionLacks depth modules x u m.tree.declarations (written_components m.tree.items) i y k
+  abbrev FollowedInclude : Inclusion → Type 0
+  FollowedInclude i = InclusionLacks depth modules x u m.tree.declarations (written_components m.tree.items) i y k
 
   abbrev Within : Option ℕ × Text → Type 0
   Within w = IncludedLacks depth modules w.0 w.1 y k
@@ -155,14 +155,14 @@ module _ (depth : ℕ) (modules : List NamedModule) (x u : Text) (m : NamedModul
   own_is : list_any test is ≡ items_lack (components_within depth modules) u m.tree.declarations m.tree.items k
   own_is = items_lack_is modules (components_within depth modules) (included_in depth modules) (included_agrees depth modules) u m.tree.declarations k m.tree.items flat
 
-  to_brought : InModule m → Any Brought is
+  to_brought : InModule m → Any FollowedInclude is
   to_brought (inl (s, e)) = let a = Any-from_list_any test is (own_is ∙ e) in (a.0, a.1, a.2, a.3, inl (s, a.4))
   to_brought (inr (w, c, h)) =
       let at : Any Within (map (wanted_at modules u m.tree.declarations) (handed_namespaces u m.tree.declarations m.tree.items)) = any_map (wanted_at modules u m.tree.declarations) Within (handed_namespaces u m.tree.declarations m.tree.items) (c.0, w, c.1, c.2, lacked_at depth modules w.0 w.1 y k (place_in modules w.0) refl h) in
       let a = any_unmap (included_at modules u m.tree.declarations) Within is (subst (λ (ws : List (Option ℕ × Text)). Any Within ws) (handed_by modules u m.tree.declarations 0 m.tree.items flat) at) in
       (a.0, a.1, a.2, a.3, inr a.4)
 
-  from_brought : Any Brought is → InModule m
+  from_brought : Any FollowedInclude is → InModule m
   from_brought (j, i, l, e, inl (s, b)) = inl (s, sym own_is ∙ list_any-from_Any test is (j, i, l, e, b))
   from_brought (j, i, l, e, inr h) =
       let at : Any Within (map (included_at modules u m.tree.declarations) is) = any_map (included_at modules u m.tree.declarations) Within is (j, i, l, e, h) in

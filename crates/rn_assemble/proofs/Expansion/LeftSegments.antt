@@ -9,7 +9,7 @@ use Rattle.std.proofs.lemmas.List.Folds.{list_any-append}
 use Rattle.rn_text.specs.Texts.{Text}
 use Rattle.rn_syntax.specs.Tree.{Declaration}
 use Rattle.rn_assemble.specs.Components.{Component, Key, NamedModule, has_key, same_key, without_overridden}
-use Rattle.rn_assemble.specs.declared.including.segments.Brought.{Brought}
+use Rattle.rn_assemble.specs.declared.including.segments.FollowedInclude.{FollowedInclude}
 use Rattle.rn_assemble.specs.declared.including.segments.Segment.{Segment}
 use Rattle.rn_assemble.specs.inside.Contained.{WrittenComponent}
 use Rattle.rn_assemble.specs.inside.ContentsOf.{resolved_component}
@@ -39,51 +39,51 @@ has_written u ds k (w ∷ ws) = ap (λ b. same_key k w.key || b) (has_written u 
 
 module _ (modules : List NamedModule) where
   -- where the include covers
-  pub covers_behind : (b : Brought) (n : ℕ) → b.to ≤ n → covers modules b n ≡ false
+  pub covers_behind : (b : FollowedInclude) (n : ℕ) → b.to ≤ n → covers modules b n ≡ false
   covers_behind b n l = ap (λ c. not (nat_lt n b.from) && c) (le-ltb n b.to l) ∙ and-false (not (nat_lt n b.from))
 
-  pub covers_before : (b : Brought) (n : ℕ) → n < b.from → covers modules b n ≡ false
+  pub covers_before : (b : FollowedInclude) (n : ℕ) → n < b.from → covers modules b n ≡ false
   covers_before b n l = ap (λ c. not c && nat_lt n b.to) (lt-ltb n b.from l)
 
-  pub covers_within : (b : Brought) (n : ℕ) → b.from ≤ n → n < b.to → covers modules b n ≡ true
+  pub covers_within : (b : FollowedInclude) (n : ℕ) → b.from ≤ n → n < b.to → covers modules b n ≡ true
   covers_within b n l m = (λ i. not (le-ltb n b.from l i) && lt-ltb n b.to m i)
 
-  none_overrides : (k : Key) (n : ℕ) (f : List Brought) → AllByRecursion (λ (b : Brought). covers modules b n ≡ false) f → is_overridden modules f k n ≡ false
+  none_overrides : (k : Key) (n : ℕ) (f : List FollowedInclude) → AllByRecursion (λ (b : FollowedInclude). covers modules b n ≡ false) f → is_overridden modules f k n ≡ false
   none_overrides k n [] h = refl
   none_overrides k n (b ∷ f) h = (λ i. (h.0 i && overrides modules k b) || none_overrides k n f h.1 i)
 
-  each_covers : (n : ℕ) (P : Brought → Type 0) (f : List Brought) → ((b : Brought) → P b → covers modules b n ≡ false) → AllByRecursion P f → AllByRecursion (λ (b : Brought). covers modules b n ≡ false) f
+  each_covers : (n : ℕ) (P : FollowedInclude → Type 0) (f : List FollowedInclude) → ((b : FollowedInclude) → P b → covers modules b n ≡ false) → AllByRecursion P f → AllByRecursion (λ (b : FollowedInclude). covers modules b n ≡ false) f
   each_covers n P [] g h = tt
   each_covers n P (b ∷ f) g h = (g b h.0, each_covers n P f g h.1)
 
   -- includes that cover none of the segments
-  abbrev rest : List Brought → ℕ → Segment → List Component
+  abbrev rest : List FollowedInclude → ℕ → Segment → List Component
   rest f n s = filter (λ (c : Component). not (is_overridden modules f c.key n)) (segment_components modules s)
 
-  left_front : (f g : List Brought) (n m : ℕ) (ss : List Segment) → n + length ss ≤ m → AllByRecursion (λ (b : Brought). m ≤ b.from) g → left_from modules (f ++ g) n ss ≡ left_from modules f n ss
+  left_front : (f g : List FollowedInclude) (n m : ℕ) (ss : List Segment) → n + length ss ≤ m → AllByRecursion (λ (b : FollowedInclude). m ≤ b.from) g → left_from modules (f ++ g) n ss ≡ left_from modules f n ss
   left_front f g n m [] l h = refl
   left_front f g n m (s ∷ ss) l h =
       let none : (k : Key) → is_overridden modules (f ++ g) k n ≡ is_overridden modules f k n = λ k.
-      list_any-append (λ (b : Brought). covers modules b n && overrides modules k b) f g ∙ ap (λ c. is_overridden modules f k n || c) (none_overrides k n g (each_covers n (λ (b : Brought). m ≤ b.from) g (λ b o. covers_before b n (omega (arith, l, o))) h)) ∙ or-false (is_overridden modules f k n) in
+      list_any-append (λ (b : FollowedInclude). covers modules b n && overrides modules k b) f g ∙ ap (λ c. is_overridden modules f k n || c) (none_overrides k n g (each_covers n (λ (b : FollowedInclude). m ≤ b.from) g (λ b o. covers_before b n (omega (arith, l, o))) h)) ∙ or-false (is_overridden modules f k n) in
       let first : rest (f ++ g) n s ≡ rest f n s = filter_same (λ (c : Component). not (is_overridden modules (f ++ g) c.key n)) (λ (c : Component). not (is_overridden modules f c.key n)) (segment_components modules s) (λ c. ap not (none c.key)) in
       λ i. first i ++ left_front f g (suc n) m ss (omega (arith, l)) h i
 
-  left_behind : (f g : List Brought) (n m : ℕ) (ss : List Segment) → m ≤ n → AllByRecursion (λ (b : Brought). b.to ≤ m) f → left_from modules (f ++ g) n ss ≡ left_from modules g n ss
+  left_behind : (f g : List FollowedInclude) (n m : ℕ) (ss : List Segment) → m ≤ n → AllByRecursion (λ (b : FollowedInclude). b.to ≤ m) f → left_from modules (f ++ g) n ss ≡ left_from modules g n ss
   left_behind f g n m [] l h = refl
   left_behind f g n m (s ∷ ss) l h =
       let none : (k : Key) → is_overridden modules (f ++ g) k n ≡ is_overridden modules g k n = λ k.
-      list_any-append (λ (b : Brought). covers modules b n && overrides modules k b) f g ∙ ap (λ c. c || is_overridden modules g k n) (none_overrides k n f (each_covers n (λ (b : Brought). b.to ≤ m) f (λ b o. covers_behind b n (omega (arith, l, o))) h)) in
+      list_any-append (λ (b : FollowedInclude). covers modules b n && overrides modules k b) f g ∙ ap (λ c. c || is_overridden modules g k n) (none_overrides k n f (each_covers n (λ (b : FollowedInclude). b.to ≤ m) f (λ b o. covers_behind b n (omega (arith, l, o))) h)) in
       let first : rest (f ++ g) n s ≡ rest g n s = filter_same (λ (c : Component). not (is_overridden modules (f ++ g) c.key n)) (λ (c : Component). not (is_overridden modules g c.key n)) (segment_components modules s) (λ c. ap not (none c.key)) in
       λ i. first i ++ left_behind f g (suc n) m ss (omega (arith, l)) h i
 
-  left_append : (f : List Brought) (n : ℕ) (ss ts : List Segment) → left_from modules f n (ss ++ ts) ≡ left_from modules f n ss ++ left_from modules f (n + length ss) ts
+  left_append : (f : List FollowedInclude) (n : ℕ) (ss ts : List Segment) → left_from modules f n (ss ++ ts) ≡ left_from modules f n ss ++ left_from modules f (n + length ss) ts
   left_append f n [] ts = let e : n ≡ n + 0 = omega arith in ap (λ m. left_from modules f m ts) e
   left_append f n (s ∷ ss) ts =
       let e : suc n + length ss ≡ n + suc (length ss) = omega arith in
       ap (λ l. rest f n s ++ l) (left_append f (suc n) ss ts ∙ ap (λ m. left_from modules f (suc n) ss ++ left_from modules f m ts) e) ∙ sym (append_assoc (rest f n s) (left_from modules f (suc n) ss) (left_from modules f (n + suc (length ss)) ts))
 
   -- segments that some includes brought in, and then segments that others did
-  pub left_both : (f g : List Brought) (n m : ℕ) (ss ts : List Segment) → m ≡ n + length ss → AllByRecursion (λ (b : Brought). b.to ≤ m) f → AllByRecursion (λ (b : Brought). m ≤ b.from) g → left_from modules (f ++ g) n (ss ++ ts) ≡ left_from modules f n ss ++ left_from modules g m ts
+  pub left_both : (f g : List FollowedInclude) (n m : ℕ) (ss ts : List Segment) → m ≡ n + length ss → AllByRecursion (λ (b : FollowedInclude). b.to ≤ m) f → AllByRecursion (λ (b : FollowedInclude). m ≤ b.from) g → left_from modules (f ++ g) n (ss ++ ts) ≡ left_from modules f n ss ++ left_from modules g m ts
   left_both f g n m ss ts e low high =
       left_append (f ++ g) n ss ts ∙ ap (λ k. left_from modules (f ++ g) n ss ++ left_from modules (f ++ g) k ts) (sym e)
       ∙ (λ i. left_front f g n m ss (omega (arith, e)) high i ++ left_behind f g m m ts (omega arith) low i)
@@ -93,7 +93,7 @@ module _ (modules : List NamedModule) where
   left_one n s = append-nil (filter (λ (c : Component). true) (segment_components modules s)) ∙ filter_true (segment_components modules s)
 
   -- one include that brought them all in
-  pub left_overridden : (f : List Brought) (b : Brought) (own : List Component) (n : ℕ) (ss : List Segment) → b.from ≤ n → n + length ss ≤ b.to → ((k : Key) → overrides modules k b ≡ has_key k own)
+  pub left_overridden : (f : List FollowedInclude) (b : FollowedInclude) (own : List Component) (n : ℕ) (ss : List Segment) → b.from ≤ n → n + length ss ≤ b.to → ((k : Key) → overrides modules k b ≡ has_key k own)
       → left_from modules (f ++ b ∷ []) n ss ≡ without_overridden (left_from modules f n ss) own
   left_overridden f b own n [] l m h = refl
   left_overridden f b own n (s ∷ ss) l m h =
@@ -102,7 +102,7 @@ module _ (modules : List NamedModule) where
       let q : Component → Bool = λ c. has_key c.key own in
       let one : (k : Key) → is_overridden modules (b ∷ []) k n ≡ has_key k own = λ k. or-false (covers modules b n && overrides modules k b) ∙ (λ i. covers_within b n l (omega (arith, m)) i && h k i) in
       let both : (c : Component) → is_overridden modules (f ++ b ∷ []) c.key n ≡ (p c || q c) = λ c.
-      list_any-append (λ (d : Brought). covers modules d n && overrides modules c.key d) f (b ∷ []) ∙ ap (λ x. p c || x) (one c.key) in
+      list_any-append (λ (d : FollowedInclude). covers modules d n && overrides modules c.key d) f (b ∷ []) ∙ ap (λ x. p c || x) (one c.key) in
       let first : rest (f ++ b ∷ []) n s ≡ without_overridden (rest f n s) own = filter_same (λ (c : Component). not (is_overridden modules (f ++ b ∷ []) c.key n)) (λ (c : Component). not (p c || q c)) cs (λ c. ap not (both c)) ∙ filter_neither p q cs in
       (λ i. first i ++ left_overridden f b own (suc n) ss (omega (arith, l)) (omega (arith, m)) h i) ∙ sym (filter-append (λ (c : Component). not (q c)) (rest f n s) (left_from modules f (suc n) ss))
 

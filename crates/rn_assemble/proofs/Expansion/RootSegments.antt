@@ -5,7 +5,7 @@ use Rattle.std.proofs.lemmas.List.Concat.{flat_map-append}
 use Rattle.rn_text.specs.Texts.{Text}
 use Rattle.rn_assemble.specs.Components.{Component, Key, NamedModule, components, has_key, instance_limit}
 use Rattle.rn_assemble.specs.declared.reading.contents.Contents.{Contents}
-use Rattle.rn_assemble.specs.declared.including.segments.Brought.{Brought}
+use Rattle.rn_assemble.specs.declared.including.segments.FollowedInclude.{FollowedInclude}
 use Rattle.rn_assemble.specs.declared.including.segments.Segments.{Segments}
 use Rattle.rn_assemble.specs.inside.Bringing.{Brings, CanBring, IsLackIn}
 use Rattle.rn_assemble.specs.inside.ContentsOf.{name_at}
@@ -57,7 +57,7 @@ module _ (modules : List NamedModule) where
 
   module _ (contents : List Contents) (x : Segments) (roots : List ℕ) (h : AreRootSegments contents x roots) where
     followed_is : x.brought.items ≡ h.brings.followed
-    followed_is = h.brings.brought_is ∙ ap (λ (l : List Brought). l ++ h.brings.followed) h.brought_is
+    followed_is = h.brings.brought_is ∙ ap (λ (l : List FollowedInclude). l ++ h.brings.followed) h.brought_is
 
     pub root_segments : AreSegmentsOf modules x (root_components roots)
     root_segments =
@@ -73,4 +73,4 @@ module _ (modules : List NamedModule) where
         }
 
     pub root_lacks : (y : Text) (k : Key) → IsLackIn modules x.list.items x.brought.items y k ↔ LacksFrom modules roots y k
-    root_lacks y k = subst (λ (l : List Brought). IsLackIn modules x.list.items l y k ↔ LacksFrom modules roots y k) (sym followed_is) (h.brings.lacks y k)
+    root_lacks y k = subst (λ (l : List FollowedInclude). IsLackIn modules x.list.items l y k ↔ LacksFrom modules roots y k) (sym followed_is) (h.brings.lacks y k)

@@ -19,8 +19,9 @@ use Rattle.rn_assemble.specs.inside.Contained.{place_in}
 use Rattle.rn_assemble.specs.inside.ContentsOf.{name_at}
 use Rattle.rn_assemble.specs.inside.Inclusions.{IsLeastAmong, IsMissing}
 use Rattle.rn_assemble.specs.inside.Referred.{lesser_text}
-use Rattle.rn_assemble.specs.inside.Views.{module_names, modules_view, texts_of}
+use Rattle.rn_assemble.specs.inside.Views.{module_names, module_number, modules_view, texts_of}
 use Rattle.rn_assemble.specs.declared.reading.named_modules.NamedModule as code
+use Rattle.rn_assemble.specs.declared.reading.named_modules.ModuleId.{ModuleId}
 use Rattle.rn_assemble.proofs.Referring.LeastUndefined.{no_text, texts_more}
 use Rattle.rn_assemble.proofs.Expansion.Inclusions.{not_missing}
 use Rattle.rn_assemble.proofs.Expansion.ModuleLookups.{none_named, place_name, place_within}
@@ -111,13 +112,13 @@ module _ (ms : List NamedModule) where
   found_all (x ∷ xs) h = found_at x xs (place_in ms x) refl (h x (contains_front x xs)) (found_all xs (λ y c. h y (contains_behind x y xs c)))
 
   -- a text is missing where it has no place
-  pub missing_where : (x : Text) (o : Option ℕ) → o ≡ place_in ms x → is_some o ≡ false → IsMissing ms x
+  pub missing_where : (x : Text) (o : Option ModuleId) → module_number o ≡ place_in ms x → is_some o ≡ false → IsMissing ms x
   missing_where x None e s = no_place x (sym e)
   missing_where x (Some k) e s = absurd (false≢true (sym s))
 
-  pub there_where : IsStrictlySortedBy text_cmp (map (λ (m : NamedModule). m.name) ms) → (x : Text) (o : Option ℕ) → o ≡ place_in ms x → is_some o ≡ true → ¬ IsMissing ms x
+  pub there_where : IsStrictlySortedBy text_cmp (map (λ (m : NamedModule). m.name) ms) → (x : Text) (o : Option ModuleId) → module_number o ≡ place_in ms x → is_some o ≡ true → ¬ IsMissing ms x
   there_where order x None e s = absurd (false≢true s)
-  there_where order x (Some k) e s = not_missing ms order k x (place_within x k ms (sym e)) (place_name x k ms (sym e))
+  there_where order x (Some k) e s = not_missing ms order k.0 x (place_within x k.0 ms (sym e)) (place_name x k.0 ms (sym e))
 
 -- names in the order of modules
 pub names_seen : (xs : List code.NamedModule) → map (λ (m : NamedModule). m.name) (modules_view xs) ≡ module_names xs

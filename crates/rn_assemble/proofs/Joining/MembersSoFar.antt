@@ -70,7 +70,7 @@ module _ (modules : List NamedModule) (list : List Segment) (row : List code.Wri
     us = segment_bodies modules list row s
 
     abbrev here : List Tree
-    here = resolved_bodies (rc_str_bytes s.context.inherited.now) (declarations_at modules s.module) (slice_range row p.from p.to)
+    here = resolved_bodies (rc_str_bytes s.context.inherited.now) (declarations_at modules s.module.0) (slice_range row p.from p.to)
 
     piece : IsPiece list row p
     piece = piece_at list row pieces each i p d l is
@@ -90,7 +90,7 @@ module _ (modules : List NamedModule) (list : List Segment) (row : List code.Wri
 
     -- how many components the piece has
     pub count_is : length (slice_range row p.from p.to) ≡ length us
-    count_is = sym (length-map (slice_range row p.from p.to) (λ (w : code.WrittenComponent). resolved_pattern (rc_str_bytes s.context.inherited.now) (declarations_at modules s.module) (boxed_view w.body))) ∙ ap length here_are
+    count_is = sym (length-map (slice_range row p.from p.to) (λ (w : code.WrittenComponent). resolved_pattern (rc_str_bytes s.context.inherited.now) (declarations_at modules s.module.0) (boxed_view w.body))) ∙ ap length here_are
 
     -- those that begin at a place are there
     pub repeat_fits : (ts : List Tree) (o : Option ℕ) (b : ℕ) → Membered begins ts i → o ≡ get_or begins s.first o → o ≡ Some b → b + length (slice_range row p.from p.to) ≤ length ts
@@ -120,7 +120,7 @@ module _ (modules : List NamedModule) (list : List Segment) (row : List code.Wri
         })
 
     -- what the bindings of the segment stand for
-    pub binds_there : (contents : List Contents) → AllByRecursion (IsSegment modules contents) list → BindsAs s.context.bindings.now (declarations_at modules s.module)
+    pub binds_there : (contents : List Contents) → AllByRecursion (IsSegment modules contents) list → BindsAs s.context.bindings.now (declarations_at modules s.module.0)
     binds_there contents are = segment_binds modules list contents p.segment s are piece.segment_within got
 
     -- a pattern of the piece is one of the key

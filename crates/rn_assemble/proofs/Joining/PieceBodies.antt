@@ -53,7 +53,7 @@ pub piece_at : (list : List Segment) (row : List code.WrittenComponent) (pieces 
 piece_at list row pieces each i p d l e = contained_each (IsPiece list row) pieces each p (subst (Contains pieces) (sym e) (Contains-get_or pieces i d l))
 
 -- what the bindings of a segment stand for
-pub segment_binds : (modules : List NamedModule) (list : List Segment) (contents : List Contents) (n : ℕ) (s : Segment) → AllByRecursion (IsSegment modules contents) list → n < length list → s ≡ get_or list n s → BindsAs s.context.bindings.now (declarations_at modules s.module)
+pub segment_binds : (modules : List NamedModule) (list : List Segment) (contents : List Contents) (n : ℕ) (s : Segment) → AllByRecursion (IsSegment modules contents) list → n < length list → s ≡ get_or list n s → BindsAs s.context.bindings.now (declarations_at modules s.module.0)
 segment_binds modules list contents n s each l got = (contained_each (IsSegment modules contents) list each s (subst (Contains list) (sym got) (Contains-get_or list n s l))).binds
 
 some_segment : (list : List Segment) (n : ℕ) → n < length list → Segment
@@ -68,17 +68,17 @@ part_size list row p h =
 module _ (modules : List NamedModule) (list : List Segment) (row : List code.WrittenComponent) where
   -- the patterns that a segment has of the key
   abbrev pub segment_bodies : Segment → List Tree
-  segment_bodies s = resolved_bodies (rc_str_bytes s.context.inherited.now) (declarations_at modules s.module) (parts_in s row)
+  segment_bodies s = resolved_bodies (rc_str_bytes s.context.inherited.now) (declarations_at modules s.module.0) (parts_in s row)
 
   -- those of a piece
   abbrev pub piece_bodies : Piece → List Tree
-  piece_bodies p = option_map_or (λ (s : Segment). resolved_bodies (rc_str_bytes s.context.inherited.now) (declarations_at modules s.module) (slice_range row p.from p.to)) (slice_get list p.segment) []
+  piece_bodies p = option_map_or (λ (s : Segment). resolved_bodies (rc_str_bytes s.context.inherited.now) (declarations_at modules s.module.0) (slice_range row p.from p.to)) (slice_get list p.segment) []
 
   abbrev pub all_bodies : List Piece → List Tree
   all_bodies pieces = flat_map piece_bodies pieces
 
   body_of : (k : Key) (p : Piece) (o : Option Segment) → map (λ (c : Component). c.body) (option_map_or (λ (s : Segment). map (component_in modules k s) (slice_range row p.from p.to)) o [])
-      ≡ option_map_or (λ (s : Segment). resolved_bodies (rc_str_bytes s.context.inherited.now) (declarations_at modules s.module) (slice_range row p.from p.to)) o []
+      ≡ option_map_or (λ (s : Segment). resolved_bodies (rc_str_bytes s.context.inherited.now) (declarations_at modules s.module.0) (slice_range row p.from p.to)) o []
   body_of k p None = refl
   body_of k p (Some s) = map-map (λ (c : Component). c.body) (component_in modules k s) (slice_range row p.from p.to)
 
@@ -92,25 +92,25 @@ module _ (modules : List NamedModule) (list : List Segment) (row : List code.Wri
   pub bodies_are : (k : Key) (cs : List Component) (pieces : List Piece) → ArePieces modules list k row cs pieces → bodies k cs ≡ all_bodies pieces
   bodies_are k cs pieces h = ap (map (λ (c : Component). c.body)) (sym h.are) ∙ map_flat k pieces
 
-  pub in_segment : (p : Piece) (s : Segment) → slice_get list p.segment ≡ Some s → piece_bodies p ≡ resolved_bodies (rc_str_bytes s.context.inherited.now) (declarations_at modules s.module) (slice_range row p.from p.to)
-  in_segment p s at = ap (λ (o : Option Segment). option_map_or (λ (t : Segment). resolved_bodies (rc_str_bytes t.context.inherited.now) (declarations_at modules t.module) (slice_range row p.from p.to)) o []) at
+  pub in_segment : (p : Piece) (s : Segment) → slice_get list p.segment ≡ Some s → piece_bodies p ≡ resolved_bodies (rc_str_bytes s.context.inherited.now) (declarations_at modules s.module.0) (slice_range row p.from p.to)
+  in_segment p s at = ap (λ (o : Option Segment). option_map_or (λ (t : Segment). resolved_bodies (rc_str_bytes t.context.inherited.now) (declarations_at modules t.module.0) (slice_range row p.from p.to)) o []) at
 
   pub of_segment : (p : Piece) (s : Segment) → IsPiece list row p → slice_get list p.segment ≡ Some s → piece_bodies p ≡ segment_bodies s
-  of_segment p s is at = in_segment p s at ∙ ap (resolved_bodies (rc_str_bytes s.context.inherited.now) (declarations_at modules s.module)) (is.parts s at)
+  of_segment p s is at = in_segment p s at ∙ ap (resolved_bodies (rc_str_bytes s.context.inherited.now) (declarations_at modules s.module.0)) (is.parts s at)
 
   body_count : (p : Piece) → IsPiece list row p → length (piece_bodies p) ≡ p.to - p.from
   body_count p h =
       let s = get_or list p.segment (some_segment list p.segment h.segment_within) in
       ap length (in_segment p s (slice_get-get_or list p.segment (some_segment list p.segment h.segment_within) h.segment_within))
-      ∙ length-map (slice_range row p.from p.to) (λ (w : code.WrittenComponent). resolved_pattern (rc_str_bytes s.context.inherited.now) (declarations_at modules s.module) (boxed_view w.body))
+      ∙ length-map (slice_range row p.from p.to) (λ (w : code.WrittenComponent). resolved_pattern (rc_str_bytes s.context.inherited.now) (declarations_at modules s.module.0) (boxed_view w.body))
       ∙ part_size list row p h
 
   -- a single component, and its pattern
   pub one_body : (p : Piece) (s : Segment) (w : code.WrittenComponent) → slice_get list p.segment ≡ Some s → w ≡ get_or row p.from w → p.from < length row → p.to - p.from ≡ 1
-      → all_bodies (p ∷ []) ≡ resolved_pattern (rc_str_bytes s.context.inherited.now) (declarations_at modules s.module) (boxed_view w.body) ∷ []
+      → all_bodies (p ∷ []) ≡ resolved_pattern (rc_str_bytes s.context.inherited.now) (declarations_at modules s.module.0) (boxed_view w.body) ∷ []
   one_body p s w at read l one =
       let part : slice_range row p.from p.to ≡ w ∷ [] = ap (λ n. take n (drop p.from row)) one ∙ ap (take 1) (drop_more row p.from w l) ∙ ap (λ x. x ∷ []) (sym read) in
-      append-nil (piece_bodies p) ∙ in_segment p s at ∙ ap (resolved_bodies (rc_str_bytes s.context.inherited.now) (declarations_at modules s.module)) part
+      append-nil (piece_bodies p) ∙ in_segment p s at ∙ ap (resolved_bodies (rc_str_bytes s.context.inherited.now) (declarations_at modules s.module.0)) part
 
   -- other pieces have no or several components
   pub not_one_body : (pieces : List Piece) → AllByRecursion (IsPiece list row) pieces → ((p : Piece) → pieces ≡ p ∷ [] → p.to - p.from ≢ 1) → length (all_bodies pieces) ≢ 1
@@ -141,10 +141,10 @@ module _ (modules : List NamedModule) (list : List Segment) (row : List code.Wri
         let x = (first n s a).alike f (slice_get-get_or list s.first s l) in
         let y = (first m t b).alike f (ap (slice_get list) e ∙ slice_get-get_or list s.first s l) in
         let u : rc_str_bytes t.context.inherited.now ≡ rc_str_bytes s.context.inherited.now = sym y.4 ∙ x.4 in
-        let of : t.module ≡ s.module = sym y.0 ∙ x.0 in
+        let of : t.module.0 ≡ s.module.0 = sym y.0 ∙ x.0 in
         let from : t.from ≡ s.from = sym y.1 ∙ x.1 in
         let to : t.to ≡ s.to = sym y.2 ∙ x.2 in
-        (λ i. resolved_bodies (u i) (declarations_at modules (of i)) (filter (λ (w : code.WrittenComponent). (w.module == of i) && (not (nat_lt w.number (from i)) && nat_lt w.number (to i))) row))
+        (λ i. resolved_bodies (u i) (declarations_at modules (of i)) (filter (λ (w : code.WrittenComponent). (w.module.0 == of i) && (not (nat_lt w.number (from i)) && nat_lt w.number (to i))) row))
 
     pub held_set : (begins : List (Option ℕ)) (ts : List Tree) (n b : ℕ) (s : Segment) → slice_get list n ≡ Some s → length begins ≡ length list → StandAt (segment_bodies s) b ts → Held begins ts → Held (set begins s.first (Some b)) ts
     held_set begins ts n b s at size stands h m c t there is = elim (cases_eq t.first s.first) [

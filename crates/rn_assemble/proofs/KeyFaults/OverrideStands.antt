@@ -29,10 +29,10 @@ lack_alike modules names P Q alike None h = λ y k q. h y k ((alike y k).1 q)
 lack_alike modules names P Q alike (Some l) h = (
   h.0,
   h.1,
-  (least_alike text_cmp (λ y. (k : Key) × P y k) (λ y. (k : Key) × Q y k) (λ y. some_alike (alike y)) (name_at modules l.«module»)).0 h.2,
-  (least_alike key_cmp (P (name_at modules l.«module»)) (Q (name_at modules l.«module»)) (alike (name_at modules l.«module»)) (key_at names l.key)).0 h.3,
+  (least_alike text_cmp (λ y. (k : Key) × P y k) (λ y. (k : Key) × Q y k) (λ y. some_alike (alike y)) (name_at modules l.«module».0)).0 h.2,
+  (least_alike key_cmp (P (name_at modules l.«module».0)) (Q (name_at modules l.«module».0)) (alike (name_at modules l.«module».0)) (key_at names l.key.0)).0 h.3,
 )
 
-pub override_stands : (modules : List NamedModule) (names : List Text) (l : Lack) (x : Text) (k : Key) → IsLeastLack modules names (Lacks modules) (Some l) → x ≡ name_at modules l.«module» → k ≡ key_at names l.key → StandsFor modules (override x k)
+pub override_stands : (modules : List NamedModule) (names : List Text) (l : Lack) (x : Text) (k : Key) → IsLeastLack modules names (Lacks modules) (Some l) → x ≡ name_at modules l.«module».0 → k ≡ key_at names l.key.0 → StandsFor modules (override x k)
 override_stands modules names l x k h ex ek =
-    subst (λ (y : Text). StandsFor modules (override y k)) (sym ex) (subst (λ (j : Key). StandsFor modules (override (name_at modules l.«module») j)) (sym ek) (h.2, h.3))
+    subst (λ (y : Text). StandsFor modules (override y k)) (sym ex) (subst (λ (j : Key). StandsFor modules (override (name_at modules l.«module».0) j)) (sym ek) (h.2, h.3))

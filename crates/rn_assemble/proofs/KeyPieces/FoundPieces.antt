@@ -1,5 +1,5 @@
 -- The pieces of the first components of a row, run by run.
-use Rattle.std.proofs.Common.{◌≡◌, ℕ, zero, suc, ◌+◌, ◌-◌, ◌<◌, ◌≤◌, eqb, Bool, true, false, List, [], ◌∷◌, ◌++◌, length, get_or, take, drop, map, filter, Some, refl, sym, ap, ◌∙◌, subst, inl, inr, arith}
+use Rattle.std.proofs.Common.{◌≡◌, ℕ, zero, suc, ◌-◌, ◌<◌, ◌≤◌, eqb, Bool, true, false, List, [], ◌∷◌, ◌++◌, length, get_or, take, drop, map, filter, Some, refl, sym, ap, ◌∙◌, subst, inl, inr, arith}
 use Rattle.std.specs.Prelude.{slice_get, slice_range, Contains, Vec}
 use Rattle.std.specs.Option.{option_map_or}
 use Rattle.std.specs.declared.alloc.Global.{Global}
@@ -45,7 +45,7 @@ pub record ArePiecesBefore (x : Segments) (row : List code.WrittenComponent) (n 
   pub within : n ≤ length row
   pub each : AllByRecursion (IsPieceBefore x.list.items row n) pieces
   pub parted : IsParted x.contents.now row n
-  pub all : (i m j : ℕ) (v : code.WrittenComponent) (c : Contents) → i < n → slice_get row i ≡ Some v → slice_get x.contents.now v.module ≡ Some c → IsSegmentOf c v.number j → Contains (places_at x.places.items v.module j) m → Contains (segments_of pieces) m
+  pub all : (i m j : ℕ) (v : code.WrittenComponent) (c : Contents) → i < n → slice_get row i ≡ Some v → slice_get x.contents.now v.module.0 ≡ Some c → IsSegmentOf c v.number j → Contains (places_at x.places.items v.module.0 j) m → Contains (segments_of pieces) m
   pub distinct : IsDistinct eqb (segments_of pieces)
 
 none_distinct : IsDistinct eqb []
@@ -134,16 +134,16 @@ segments_added : (from to : ℕ) (old : List Piece) (ns : List ℕ) → segments
 segments_added from to old ns = map-append (λ (p : Piece). p.segment) old (map (piece_of from to) ns) ∙ ap (λ ms. segments_of old ++ ms) (segments_mapped from to ns)
 
 module _ (modules : List NamedModule) (x : Segments) (are : AreSegments modules x) (row : List code.WrittenComponent) (f : IsRowIn x.contents.now row) (from to : ℕ) (old : List Piece) (p : ArePiecesBefore x row from old)
-    (w : code.WrittenComponent) (c : Contents) (at : slice_get row from ≡ Some w) (has : slice_get x.contents.now w.module ≡ Some c)
-    (j : ℕ) (in' : IsSegmentOf c w.number j) (run : IsEndOfRun row from w.module (segment_end c j) to) where
+    (w : code.WrittenComponent) (c : Contents) (at : slice_get row from ≡ Some w) (has : slice_get x.contents.now w.module.0 ≡ Some c)
+    (j : ℕ) (in' : IsSegmentOf c w.number j) (run : IsEndOfRun row from w.module.0 (segment_end c j) to) where
   ns : List ℕ
-  ns = places_at x.places.items w.module j
+  ns = places_at x.places.items w.module.0 j
 
   new_parts : (n : ℕ) → Contains ns n → (s : Segment) × (slice_get x.list.items n ≡ Some s) × (slice_range row from to ≡ parts_in s row)
   unfolding ns
   new_parts n k =
-      let h = are.numbered w.module j n k in
-      (h.0, h.1, sym (parts_are x.contents.now w.module j h.0 c has h.2 row ∙ run_is x.contents.now row f from to j w c at has in' run p.parted))
+      let h = are.numbered w.module.0 j n k in
+      (h.0, h.1, sym (parts_are x.contents.now w.module.0 j h.0 c has h.2 row ∙ run_is x.contents.now row f from to j w c at has in' run p.parted))
 
   new_piece : (n : ℕ) → Contains ns n → IsPieceBefore x.list.items row to (piece_of from to n)
   unfolding ns
@@ -179,7 +179,7 @@ module _ (modules : List NamedModule) (x : Segments) (are : AreSegments modules 
       (each_weaker (IsPieceBefore x.list.items row from) (IsPieceBefore x.list.items row to) (λ q h. (h.0, omega (arith, h.1, run.further), h.2)) old p.each)
       (each_mapped (IsPieceBefore x.list.items row to) (piece_of from to) ns new_piece)
 
-  new_all : (i m k : ℕ) (v : code.WrittenComponent) (d : Contents) → i < to → slice_get row i ≡ Some v → slice_get x.contents.now v.module ≡ Some d → IsSegmentOf d v.number k → Contains (places_at x.places.items v.module k) m → Contains (segments_of old ++ ns) m
+  new_all : (i m k : ℕ) (v : code.WrittenComponent) (d : Contents) → i < to → slice_get row i ≡ Some v → slice_get x.contents.now v.module.0 ≡ Some d → IsSegmentOf d v.number k → Contains (places_at x.places.items v.module.0 k) m → Contains (segments_of old ++ ns) m
   unfolding ns
   new_all i m k v d l e h a b =
       let later : from ≤ i → Contains (segments_of old ++ ns) m = λ s.
@@ -188,11 +188,11 @@ module _ (modules : List NamedModule) (x : Segments) (are : AreSegments modules 
       let o = f.written from w at in
       let ordered : HasOrderedIncludes c = subst HasOrderedIncludes (same_Some o.0 c (sym o.1 ∙ has)) o.2 in
       let number : k ≡ j = one_segment c v.number k j ordered (subst (λ (y : Contents). IsSegmentOf y v.number k) same a) r.1 in
-      let there : Contains ns m = subst (λ t. Contains (places_at x.places.items w.module t) m) number (subst (λ t. Contains (places_at x.places.items t k) m) r.0 b) in
+      let there : Contains ns m = subst (λ t. Contains (places_at x.places.items w.module.0 t) m) number (subst (λ t. Contains (places_at x.places.items t k) m) r.0 b) in
       Contains-append_right (segments_of old) ns m there in
       elim (cases_lt i from) [ inl s ↦ Contains-append_left (segments_of old) ns m (p.all i m k v d s e h a b) | inr s ↦ later s ]
 
-  pub run_added : ArePiecesBefore x row to (old ++ map (piece_of from to) (places_at x.places.items w.module j))
+  pub run_added : ArePiecesBefore x row to (old ++ map (piece_of from to) (places_at x.places.items w.module.0 j))
   unfolding ns
   run_added =
       let e = segments_added from to old ns in
@@ -201,7 +201,7 @@ module _ (modules : List NamedModule) (x : Segments) (are : AreSegments modules 
         each = new_each;
         parted = parted_more x.contents.now row f from to j w c at has in' run p.parted;
         all = λ i m k v d l g h a b. subst (λ ms. Contains ms m) (sym e) (new_all i m k v d l g h a b);
-        distinct = subst (IsDistinct eqb) (sym e) (distinct_append (segments_of old) ns p.distinct (rising_distinct ns (are.rise w.module j)) twice);
+        distinct = subst (IsDistinct eqb) (sym e) (distinct_append (segments_of old) ns p.distinct (rising_distinct ns (are.rise w.module.0 j)) twice);
       }
 
 -- a run more
@@ -220,9 +220,9 @@ first_rise modules x are row f from to old new e a =
     let w = element_at row from (omega (arith, a.further, a.within)) in
     let c = f.written from w.0 w.1 in
     let r = a.added w.0 c.0 w.1 c.1 in
-    let ns = places_at x.places.items w.0.module r.0 in
+    let ns = places_at x.places.items w.0.module.0 r.0 in
     let is : segments_of new ≡ ns = ap segments_of (r.3 ∙ ap (λ ps. ps ++ map (piece_of from to) ns) e) ∙ segments_mapped from to ns in
-    subst IsStrictlyIncreasing (sym is) (are.rise w.0.module r.0)
+    subst IsStrictlyIncreasing (sym is) (are.rise w.0.module.0 r.0)
 
 -- ---- all runs
 
@@ -246,18 +246,18 @@ module _ (modules : List NamedModule) (x : Segments) (are : AreSegments modules 
     (p : ArePiecesBefore x row end pieces) (l : length row ≤ end) where
   all_found : (n : ℕ) (s : Segment) (w : code.WrittenComponent) → slice_get x.list.items n ≡ Some s → Contains (parts_in s row) w → Contains (segments_of pieces) n
   all_found n s w e k =
-      let i = filter_has (is_within s.module s.from s.to) row w k in
-      let h = within_says s.module s.from s.to w i.2 in
+      let i = filter_has (is_within s.module.0 s.from s.to) row w k in
+      let h = within_says s.module.0 s.from s.to w i.2 in
       let place = are.placed n s e in
-      let numbered = are.numbered s.module place.0 n place.1 in
+      let numbered = are.numbered s.module.0 place.0 n place.1 in
       let same : numbered.0 ≡ s = same_Some numbered.0 s (sym numbered.1 ∙ e) in
-      let number : HasNumber x.contents.now s.module place.0 s = subst (HasNumber x.contents.now s.module place.0) same numbered.2 in
+      let number : HasNumber x.contents.now s.module.0 place.0 s = subst (HasNumber x.contents.now s.module.0 place.0) same numbered.2 in
       let o = f.written i.0 w i.1 in
-      let has : slice_get x.contents.now s.module ≡ Some o.0 = ap (slice_get x.contents.now) (sym h.0) ∙ o.1 in
-      let begin = begins_at x.contents.now s.module place.0 s o.0 has number in
-      let behind = ends_at x.contents.now s.module place.0 s o.0 has number in
+      let has : slice_get x.contents.now s.module.0 ≡ Some o.0 = ap (slice_get x.contents.now) (sym h.0) ∙ o.1 in
+      let begin = begins_at x.contents.now s.module.0 place.0 s o.0 has number in
+      let behind = ends_at x.contents.now s.module.0 place.0 s o.0 has number in
       let in' : IsSegmentOf o.0 w.number place.0 = record {
-        within = number_within x.contents.now x.places.items s.module place.0 n o.0 are.sizes has place.1;
+        within = number_within x.contents.now x.places.items s.module.0 place.0 n o.0 are.sizes has place.1;
         begins = omega (arith, begin, h.1);
         ends = λ m. omega (arith, behind, h.2);
       } in

@@ -12,7 +12,8 @@ use Rattle.rn_pattern.proofs.Ordered.InOrder.{contained_each, contains_front}
 use Rattle.rn_assemble.specs.Components.{Component, Key, NamedModule, has_key, same_key}
 use Rattle.rn_assemble.specs.declared.reading.key_rows.WrittenComponent as code
 use Rattle.rn_assemble.specs.declared.including.pieces.Piece.{Piece}
-use Rattle.rn_assemble.specs.declared.including.segments.Brought.{Brought}
+use Rattle.rn_assemble.specs.declared.including.segments.FollowedInclude.{FollowedInclude}
+use Rattle.rn_assemble.specs.declared.reading.named_modules.ModuleId.{ModuleId}
 use Rattle.rn_assemble.specs.declared.including.segments.Segment.{Segment}
 use Rattle.rn_assemble.specs.declared.including.segments.Segments.{Segments}
 use Rattle.rn_assemble.specs.inside.Contained.{WrittenComponent}
@@ -61,12 +62,12 @@ any_contains test xs x c t = list_any_at test xs c.0 x c.1 (ap test c.2 ∙ t)
 
 module _ (modules : List NamedModule) (k : Key) (row : List code.WrittenComponent) (is : IsRowOf modules k row) where
   -- an include overrides the key where some component of the row is one of its own
-  pub overrides_same : (b : Brought) → overrides_in row b ≡ overrides modules k b
+  pub overrides_same : (b : FollowedInclude) → overrides_in row b ≡ overrides modules k b
   overrides_same b =
-      any_kept (is_within b.module b.own_from b.own_to) row
-      ∙ sym (some_mapped (λ (w : code.WrittenComponent). (placed_view k w).component) (filter (is_within b.module b.own_from b.own_to) row))
-      ∙ sym (ap has_some (row_parts modules k row is b.module b.own_from b.own_to))
-      ∙ sym (any_kept (λ (w : WrittenComponent). same_key k w.key) (slice_range (written_at modules b.module) b.own_from b.own_to))
+      any_kept (is_within b.module.0 b.own_from b.own_to) row
+      ∙ sym (some_mapped (λ (w : code.WrittenComponent). (placed_view k w).component) (filter (is_within b.module.0 b.own_from b.own_to) row))
+      ∙ sym (ap has_some (row_parts modules k row is b.module.0 b.own_from b.own_to))
+      ∙ sym (any_kept (λ (w : WrittenComponent). same_key k w.key) (slice_range (written_at modules b.module.0) b.own_from b.own_to))
 
   segment_has : (s : Segment) → has_key k (segment_components modules s) ≡ has_some (parts_in s row)
   segment_has s =
@@ -74,7 +75,7 @@ module _ (modules : List NamedModule) (k : Key) (row : List code.WrittenComponen
       ∙ ap has_some (segment_parts modules k row is s)
       ∙ some_mapped (component_in modules k s) (parts_in s row)
 
-  module _ (list : List Segment) (pieces : List Piece) (all : AreAllPieces list row pieces) (b : Brought) (o : b.from ≤ b.to) (w : b.to ≤ length list) where
+  module _ (list : List Segment) (pieces : List Piece) (all : AreAllPieces list row pieces) (b : FollowedInclude) (o : b.from ≤ b.to) (w : b.to ≤ length list) where
     abbrev brought : List Segment
     brought = slice_range list b.from b.to
 
@@ -101,7 +102,7 @@ module _ (modules : List NamedModule) (k : Key) (row : List code.WrittenComponen
     )
 
 -- an include brought in none of the pieces, or some
-module _ (pieces : List Piece) (b : Brought) (from to : ℕ) (h : ArePiecesIn pieces b from to) where
+module _ (pieces : List Piece) (b : FollowedInclude) (from to : ℕ) (h : ArePiecesIn pieces b from to) where
   pub none_inside : from ≡ to → (p : Piece) → Contains pieces p → b.from ≤ p.segment → p.segment < b.to → ⊥
   none_inside e p c low high =
       let i = (h.are c.0 p (slice_get-get_or pieces c.0 p c.1 ∙ ap Some c.2)).1 (low, high) in
@@ -119,42 +120,42 @@ module _ (pieces : List Piece) (b : Brought) (from to : ℕ) (h : ArePiecesIn pi
 -- ---- the least module of which something holds
 
 -- the least module of an include among these of which P holds, if there is one
-abbrev pub IsLeastOf : (Brought → Type 0) → List Brought → Option ℕ → Type 0
-IsLeastOf P bs None = (b : Brought) → Contains bs b → ¬ P b
-IsLeastOf P bs (Some m) = ((b : Brought) × Contains bs b × (b.module ≡ m) × P b) × ((b : Brought) → Contains bs b → P b → m ≤ b.module)
+abbrev pub IsLeastOf : (FollowedInclude → Type 0) → List FollowedInclude → Option ModuleId → Type 0
+IsLeastOf P bs None = (b : FollowedInclude) → Contains bs b → ¬ P b
+IsLeastOf P bs (Some m) = ((b : FollowedInclude) × Contains bs b × (b.module.0 ≡ m.0) × P b) × ((b : FollowedInclude) → Contains bs b → P b → m.0 ≤ b.module.0)
 
-module _ (P : Brought → Type 0) where
-  module _ (bs : List Brought) (b : Brought) where
-    pub least_passed : (o : Option ℕ) → IsLeastOf P bs o → ¬ P b → IsLeastOf P (bs ++ b ∷ []) o
+module _ (P : FollowedInclude → Type 0) where
+  module _ (bs : List FollowedInclude) (b : FollowedInclude) where
+    pub least_passed : (o : Option ModuleId) → IsLeastOf P bs o → ¬ P b → IsLeastOf P (bs ++ b ∷ []) o
     least_passed None h n = λ d c p. ⊎_elim (λ k. h d k p) (λ e. n (subst P (sym e) p)) (Contains-push_cases bs b d c)
     least_passed (Some m) h n = (
       (h.0.0, Contains-append_left bs (b ∷ []) h.0.0 h.0.1, h.0.2, h.0.3),
       λ d c p. ⊎_elim (λ k. h.1 d k p) (λ e. absurd (n (subst P (sym e) p))) (Contains-push_cases bs b d c),
     )
 
-    pub least_met : (o : Option ℕ) (m : ℕ) → IsLeastOf P bs o → P b → m ≡ option_map_or (λ (n : ℕ). min n b.module) o b.module → IsLeastOf P (bs ++ b ∷ []) (Some m)
+    pub least_met : (o : Option ModuleId) (m : ModuleId) → IsLeastOf P bs o → P b → m.0 ≡ option_map_or (λ (n : ModuleId). min n.0 b.module.0) o b.module.0 → IsLeastOf P (bs ++ b ∷ []) (Some m)
     least_met None m h p e = (
       (b, Contains-push bs b, sym e, p),
-      λ d c q. ⊎_elim (λ k. absurd (h d k q)) (λ s. let same = ap (λ (v : Brought). v.module) s in omega (arith, e, same)) (Contains-push_cases bs b d c),
+      λ d c q. ⊎_elim (λ k. absurd (h d k q)) (λ s. let same = ap (λ (v : FollowedInclude). v.module.0) s in omega (arith, e, same)) (Contains-push_cases bs b d c),
     )
     least_met (Some n) m h p e =
-        let below : (d : Brought) → Contains (bs ++ b ∷ []) d → P d → m ≤ d.module =
-        λ d c q. ⊎_elim (λ k. let l = h.1 d k q in omega (arith, e, l)) (λ s. let same = ap (λ (v : Brought). v.module) s in omega (arith, e, same)) (Contains-push_cases bs b d c) in
+        let below : (d : FollowedInclude) → Contains (bs ++ b ∷ []) d → P d → m.0 ≤ d.module.0 =
+        λ d c q. ⊎_elim (λ k. let l = h.1 d k q in omega (arith, e, l)) (λ s. let same = ap (λ (v : FollowedInclude). v.module.0) s in omega (arith, e, same)) (Contains-push_cases bs b d c) in
         ⊎_elim
-        (λ l. let is : b.module ≡ m = omega (arith, e, l) in ((b, Contains-push bs b, is, p), below))
-        (λ l. let is : h.0.0.module ≡ m = omega (arith, e, l, h.0.2) in ((h.0.0, Contains-append_left bs (b ∷ []) h.0.0 h.0.1, is, h.0.3), below))
-        (cases_lt b.module n)
+        (λ l. let is : b.module.0 ≡ m.0 = omega (arith, e, l) in ((b, Contains-push bs b, is, p), below))
+        (λ l. let is : h.0.0.module.0 ≡ m.0 = omega (arith, e, l, h.0.2) in ((h.0.0, Contains-append_left bs (b ∷ []) h.0.0 h.0.1, is, h.0.3), below))
+        (cases_lt b.module.0 n.0)
 
 -- where P is to lack the key
-pub least_lacking : (modules : List NamedModule) (x : Segments) (k : Key) (P : Brought → Type 0) → ((b : Brought) → Contains x.brought.items b → P b → IsLackOf modules x.list.items b k) → ((b : Brought) → Contains x.brought.items b → IsLackOf modules x.list.items b k → P b)
-    → (o : Option ℕ) → IsLeastOf P x.brought.items o → IsLeastLacking modules x k o
+pub least_lacking : (modules : List NamedModule) (x : Segments) (k : Key) (P : FollowedInclude → Type 0) → ((b : FollowedInclude) → Contains x.brought.items b → P b → IsLackOf modules x.list.items b k) → ((b : FollowedInclude) → Contains x.brought.items b → IsLackOf modules x.list.items b k → P b)
+    → (o : Option ModuleId) → IsLeastOf P x.brought.items o → IsLeastLacking modules x k o
 least_lacking modules x k P f g None h = λ b c l. h b c (g b c l)
 least_lacking modules x k P f g (Some m) h = ((h.0.0, h.0.1, h.0.2, f h.0.0 h.0.1 h.0.3), λ b c l. h.1 b c (g b c l))
 
 -- the same, for the elements of a list up to an index
-module _ (P : Brought → Type 0) (bs : List Brought) (i : ℕ) (d : Brought) (l : i < length bs) (o : Option ℕ) (h : IsLeastOf P (take i bs) o) where
+module _ (P : FollowedInclude → Type 0) (bs : List FollowedInclude) (i : ℕ) (d : FollowedInclude) (l : i < length bs) (o : Option ModuleId) (h : IsLeastOf P (take i bs) o) where
   pub passed_at : ¬ P (get_or bs i d) → IsLeastOf P (take (i + 1) bs) o
   passed_at n = subst (λ cs. IsLeastOf P cs o) (sym (take_more bs i d l)) (least_passed P (take i bs) (get_or bs i d) o h n)
 
-  pub met_at : (m : ℕ) → P (get_or bs i d) → m ≡ option_map_or (λ (n : ℕ). min n (get_or bs i d).module) o (get_or bs i d).module → IsLeastOf P (take (i + 1) bs) (Some m)
+  pub met_at : (m : ModuleId) → P (get_or bs i d) → m.0 ≡ option_map_or (λ (n : ModuleId). min n.0 (get_or bs i d).module.0) o (get_or bs i d).module.0 → IsLeastOf P (take (i + 1) bs) (Some m)
   met_at m p e = subst (λ cs. IsLeastOf P cs (Some m)) (sym (take_more bs i d l)) (least_met P (take i bs) (get_or bs i d) o m h p e)

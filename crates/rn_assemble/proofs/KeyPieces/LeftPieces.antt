@@ -13,9 +13,8 @@ use Rattle.rn_assemble.specs.Combine.{of_key}
 use Rattle.rn_assemble.specs.Components.{Component, Key, NamedModule, same_key}
 use Rattle.rn_assemble.specs.declared.reading.key_rows.WrittenComponent as code
 use Rattle.rn_assemble.specs.declared.including.pieces.Piece.{Piece}
-use Rattle.rn_assemble.specs.declared.including.segments.Brought.{Brought}
+use Rattle.rn_assemble.specs.declared.including.segments.FollowedInclude.{FollowedInclude}
 use Rattle.rn_assemble.specs.declared.including.segments.Segment.{Segment}
-use Rattle.rn_assemble.specs.inside.Contained.{WrittenComponent}
 use Rattle.rn_assemble.specs.inside.ContentsOf.{declarations_at, resolved_component, written_at}
 use Rattle.rn_assemble.specs.inside.Pieces.{IsPiece, component_in, parts_in, piece_components}
 use Rattle.rn_assemble.specs.inside.Rows.{IsRowOf, placed_view}
@@ -30,10 +29,10 @@ use Rattle.rn_assemble.proofs.Referring.ListMembers.{map_contained}
 pub segment_parts : (modules : List NamedModule) (k : Key) (row : List code.WrittenComponent) → IsRowOf modules k row → (s : Segment) → of_key k (segment_components modules s) ≡ map (component_in modules k s) (parts_in s row)
 segment_parts modules k row is s =
     let u = rc_str_bytes s.context.inherited.now in
-    let ds = declarations_at modules s.module in
+    let ds = declarations_at modules s.module.0 in
     let view = λ (w : code.WrittenComponent). (placed_view k w).component in
-    filter_mapped (λ (c : Component). same_key k c.key) (resolved_component u ds) (slice_range (written_at modules s.module) s.from s.to)
-    ∙ ap (map (resolved_component u ds)) (row_parts modules k row is s.module s.from s.to)
+    filter_mapped (λ (c : Component). same_key k c.key) (resolved_component u ds) (slice_range (written_at modules s.module.0) s.from s.to)
+    ∙ ap (map (resolved_component u ds)) (row_parts modules k row is s.module.0 s.from s.to)
     ∙ map-map (resolved_component u ds) view (parts_in s row)
 
 -- numbers that rise, none below the first
@@ -80,7 +79,7 @@ kept_of_key k P (c ∷ cs) =
     kept_one k c (filter (λ (d : Component). not (P d.key)) cs) (of_key k cs) (same_key k c.key) (P c.key) (P k) refl
     (λ e. ap P (sym ((same_key-Decides k c.key).0 e))) (kept_of_key k P cs)
 
-module _ (modules : List NamedModule) (k : Key) (followed : List Brought) where
+module _ (modules : List NamedModule) (k : Key) (followed : List FollowedInclude) where
   -- what is left of the key in the segment at a place
   abbrev left_in : ℕ → Segment → List Component
   left_in n s = cond (is_overridden modules followed k n) [] (of_key k (segment_components modules s))

@@ -11,7 +11,7 @@ use Rattle.rn_assemble.specs.Combine.{of_key}
 use Rattle.rn_assemble.specs.Components.{Component, Key, NamedModule}
 use Rattle.rn_assemble.specs.declared.reading.key_rows.WrittenComponent as code
 use Rattle.rn_assemble.specs.declared.including.pieces.Piece.{Piece}
-use Rattle.rn_assemble.specs.declared.including.segments.Brought.{Brought}
+use Rattle.rn_assemble.specs.declared.including.segments.FollowedInclude.{FollowedInclude}
 use Rattle.rn_assemble.specs.declared.including.segments.Segment.{Segment}
 use Rattle.rn_assemble.specs.declared.including.segments.Segments.{Segments}
 use Rattle.rn_assemble.specs.inside.Pieces.{AreAllPieces, AreLeft, ArePieces, IsPiece, overrides_in, parts_in}
@@ -38,11 +38,11 @@ filter_every p (x ∷ xs) h = ap (λ b. cond b (x ∷ filter p xs) (filter p xs)
 -- ---- the pieces that aren't marked
 
 -- those that are left of marked pieces
-abbrev pub unmarked_of : List code.WrittenComponent → List Brought → List Piece → List Piece
+abbrev pub unmarked_of : List code.WrittenComponent → List FollowedInclude → List Piece → List Piece
 unmarked_of row bs ps = filter (λ (p : Piece). not p.is_overridden) (map (marked_in row bs) ps)
 
 -- where no include overrides the key, these are all
-pub none_taken : (row : List code.WrittenComponent) (bs : List Brought) (ps : List Piece) → ((b : Brought) → Contains bs b → overrides_in row b ≡ false) → unmarked_of row bs ps ≡ map (marked_in row bs) ps
+pub none_taken : (row : List code.WrittenComponent) (bs : List FollowedInclude) (ps : List Piece) → ((b : FollowedInclude) → Contains bs b → overrides_in row b ≡ false) → unmarked_of row bs ps ≡ map (marked_in row bs) ps
 none_taken row bs ps h =
     filter_mapped (λ (p : Piece). not p.is_overridden) (marked_in row bs) ps
     ∙ ap (map (marked_in row bs)) (filter_every (λ (p : Piece). not (is_overridden_in row bs p.segment)) ps (λ p. not_from_false (is_overridden_in row bs p.segment) (none_overridden row bs h p.segment)))
@@ -50,7 +50,7 @@ none_taken row bs ps h =
 module _ (modules : List NamedModule) (k : Key) (row : List code.WrittenComponent) (is : IsRowOf modules k row) (x : Segments) (cs : List Component) (s : AreSegmentsOf modules x cs) (ps : List Piece) (all : AreAllPieces x.list.items row ps) where
   overridden_same : (n : ℕ) → is_overridden modules x.brought.items k n ≡ is_overridden_in row x.brought.items n
   overridden_same n =
-      any_agree (λ (b : Brought). (not (nat_lt n b.from) && nat_lt n b.to) && overrides modules k b) (λ (b : Brought). (not (nat_lt n b.from) && nat_lt n b.to) && overrides_in row b)
+      any_agree (λ (b : FollowedInclude). (not (nat_lt n b.from) && nat_lt n b.to) && overrides modules k b) (λ (b : FollowedInclude). (not (nat_lt n b.from) && nat_lt n b.to) && overrides_in row b)
       (λ b. ap (λ t. (not (nat_lt n b.from) && nat_lt n b.to) && t) (sym (overrides_same modules k row is b))) x.brought.items
 
   abbrev stays : ℕ → Bool

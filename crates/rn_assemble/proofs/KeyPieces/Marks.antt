@@ -12,7 +12,7 @@ use Rattle.rn_pattern.proofs.Ordered.InOrder.{contains_behind, contains_front}
 use borrow.Rule.Slice.PartMut.{mid_of, put_mid}
 use Rattle.rn_assemble.specs.declared.reading.key_rows.WrittenComponent as code
 use Rattle.rn_assemble.specs.declared.including.pieces.Piece.{Piece}
-use Rattle.rn_assemble.specs.declared.including.segments.Brought.{Brought}
+use Rattle.rn_assemble.specs.declared.including.segments.FollowedInclude.{FollowedInclude}
 use Rattle.rn_assemble.specs.inside.Pieces.{overrides_in}
 use Rattle.rn_assemble.specs.inside.Runs.{ArePiecesIn, is_overridden_in, marked, marked_in}
 
@@ -50,21 +50,21 @@ map_agree f g e [] = refl
 map_agree f g e (x ∷ xs) = let first = e x in let rest = map_agree f g e xs in λ i. first i ∷ rest i
 
 -- whether the include brought the piece's segment in
-abbrev brings : Brought → Piece → Bool
+abbrev brings : FollowedInclude → Piece → Bool
 brings b p = not (nat_lt p.segment b.from) && nat_lt p.segment b.to
 
-brings_from : (b : Brought) (p : Piece) → b.from ≤ p.segment → p.segment < b.to → brings b p ≡ true
+brings_from : (b : FollowedInclude) (p : Piece) → b.from ≤ p.segment → p.segment < b.to → brings b p ≡ true
 brings_from b p l h = ap (λ t. not t && nat_lt p.segment b.to) (le-ltb p.segment b.from l) ∙ lt-ltb p.segment b.to h
 
-brings_says : (b : Brought) (p : Piece) → brings b p ≡ true → (b.from ≤ p.segment) × (p.segment < b.to)
+brings_says : (b : FollowedInclude) (p : Piece) → brings b p ≡ true → (b.from ≤ p.segment) × (p.segment < b.to)
 brings_says b p e =
     let h = and_parts (not (nat_lt p.segment b.from)) (nat_lt p.segment b.to) e in
     (ltb-false p.segment b.from (not-true (nat_lt p.segment b.from) h.0), ltb-true p.segment b.to h.1)
 
 -- an include more, that overrides the key or doesn't
-marked_by : (row : List code.WrittenComponent) (bs : List Brought) (b : Brought) (p : Piece) (t o : Bool) → brings b p ≡ t → overrides_in row b ≡ o → is_overridden_in row (bs ++ b ∷ []) p.segment ≡ (is_overridden_in row bs p.segment || ((t && o) || false))
+marked_by : (row : List code.WrittenComponent) (bs : List FollowedInclude) (b : FollowedInclude) (p : Piece) (t o : Bool) → brings b p ≡ t → overrides_in row b ≡ o → is_overridden_in row (bs ++ b ∷ []) p.segment ≡ (is_overridden_in row bs p.segment || ((t && o) || false))
 marked_by row bs b p t o e f =
-    list_any-append (λ (d : Brought). (not (nat_lt p.segment d.from) && nat_lt p.segment d.to) && overrides_in row d) bs (b ∷ [])
+    list_any-append (λ (d : FollowedInclude). (not (nat_lt p.segment d.from) && nat_lt p.segment d.to) && overrides_in row d) bs (b ∷ [])
     ∙ ap (λ u. is_overridden_in row bs p.segment || ((u && overrides_in row b) || false)) e
     ∙ ap (λ u. is_overridden_in row bs p.segment || ((t && u) || false)) f
 
@@ -83,7 +83,7 @@ and_last false = refl
 with_mark : Piece → Bool → Piece
 with_mark p m = record { segment = p.segment; from = p.from; to = p.to; is_overridden = m }
 
-mark_here : (row : List code.WrittenComponent) (bs : List Brought) (b : Brought) → overrides_in row b ≡ true → (p : Piece) → cond (brings b (marked_in row bs p)) (marked (marked_in row bs p)) (marked_in row bs p) ≡ marked_in row (bs ++ b ∷ []) p
+mark_here : (row : List code.WrittenComponent) (bs : List FollowedInclude) (b : FollowedInclude) → overrides_in row b ≡ true → (p : Piece) → cond (brings b (marked_in row bs p)) (marked (marked_in row bs p)) (marked_in row bs p) ≡ marked_in row (bs ++ b ∷ []) p
 unfolding with_mark
 mark_here row bs b o p =
     let before = is_overridden_in row bs p.segment in
@@ -94,7 +94,7 @@ mark_here row bs b o p =
     elim (cases_Bool (brings b p)) [ inl t ↦ yes t | inr t ↦ no t ]
 
 -- where the include overrides the key, the pieces that it brought in are marked
-pub marks_more : (row : List code.WrittenComponent) (bs : List Brought) (b : Brought) (ps xs : List Piece) (from to : ℕ) → xs ≡ map (marked_in row bs) ps → overrides_in row b ≡ true → ArePiecesIn xs b from to
+pub marks_more : (row : List code.WrittenComponent) (bs : List FollowedInclude) (b : FollowedInclude) (ps xs : List Piece) (from to : ℕ) → xs ≡ map (marked_in row bs) ps → overrides_in row b ≡ true → ArePiecesIn xs b from to
     → put_mid from (to - from) xs (map marked (mid_of from (to - from) xs)) ≡ map (marked_in row (bs ++ b ∷ [])) ps
 marks_more row bs b ps xs from to e o a =
     let end : from + (to - from) ≡ to = omega (arith, a.ordered) in
@@ -107,7 +107,7 @@ marks_more row bs b ps xs from to e o a =
     ∙ map_agree (λ (p : Piece). cond (brings b (marked_in row bs p)) (marked (marked_in row bs p)) (marked_in row bs p)) (marked_in row (bs ++ b ∷ [])) (mark_here row bs b o) ps
 
 -- else all stay as they are
-pub marks_same : (row : List code.WrittenComponent) (bs : List Brought) (b : Brought) (ps : List Piece) → overrides_in row b ≡ false → map (marked_in row bs) ps ≡ map (marked_in row (bs ++ b ∷ [])) ps
+pub marks_same : (row : List code.WrittenComponent) (bs : List FollowedInclude) (b : FollowedInclude) (ps : List Piece) → overrides_in row b ≡ false → map (marked_in row bs) ps ≡ map (marked_in row (bs ++ b ∷ [])) ps
 unfolding with_mark
 marks_same row bs b ps o =
     map_agree (marked_in row bs) (marked_in row (bs ++ b ∷ [])) (λ p.
@@ -116,21 +116,21 @@ marks_same row bs b ps o =
 
 -- ---- over the includes of a list
 
-segments_marked : (row : List code.WrittenComponent) (bs : List Brought) (ps : List Piece) → map (λ (p : Piece). p.segment) (map (marked_in row bs) ps) ≡ map (λ (p : Piece). p.segment) ps
+segments_marked : (row : List code.WrittenComponent) (bs : List FollowedInclude) (ps : List Piece) → map (λ (p : Piece). p.segment) (map (marked_in row bs) ps) ≡ map (λ (p : Piece). p.segment) ps
 segments_marked row bs ps = map-map (λ (p : Piece). p.segment) (marked_in row bs) ps
 
-pub marked_rise : (row : List code.WrittenComponent) (bs : List Brought) (ps xs : List Piece) → xs ≡ map (marked_in row bs) ps → IsStrictlyIncreasing (map (λ (p : Piece). p.segment) ps) → IsStrictlyIncreasing (map (λ (p : Piece). p.segment) xs)
+pub marked_rise : (row : List code.WrittenComponent) (bs : List FollowedInclude) (ps xs : List Piece) → xs ≡ map (marked_in row bs) ps → IsStrictlyIncreasing (map (λ (p : Piece). p.segment) ps) → IsStrictlyIncreasing (map (λ (p : Piece). p.segment) xs)
 marked_rise row bs ps xs e h = subst IsStrictlyIncreasing (sym (ap (map (λ (p : Piece). p.segment)) e ∙ segments_marked row bs ps)) h
 
 -- where no include overrides the key, no piece is marked
-pub none_overridden : (row : List code.WrittenComponent) (bs : List Brought) → ((b : Brought) → Contains bs b → overrides_in row b ≡ false) → (n : ℕ) → is_overridden_in row bs n ≡ false
+pub none_overridden : (row : List code.WrittenComponent) (bs : List FollowedInclude) → ((b : FollowedInclude) → Contains bs b → overrides_in row b ≡ false) → (n : ℕ) → is_overridden_in row bs n ≡ false
 none_overridden row [] h n = refl
 none_overridden row (b ∷ bs) h n =
     or_from ((not (nat_lt n b.from) && nat_lt n b.to) && overrides_in row b) (is_overridden_in row bs n)
     (and_right (not (nat_lt n b.from) && nat_lt n b.to) (overrides_in row b) (h b (contains_front b bs)))
     (none_overridden row bs (λ d c. h d (contains_behind b d bs c)) n)
 
-pub none_marked : (row : List code.WrittenComponent) (bs : List Brought) (ps : List Piece) → AllByRecursion (λ (p : Piece). p.is_overridden ≡ false) ps → ((b : Brought) → Contains bs b → overrides_in row b ≡ false) → ps ≡ map (marked_in row bs) ps
+pub none_marked : (row : List code.WrittenComponent) (bs : List FollowedInclude) (ps : List Piece) → AllByRecursion (λ (p : Piece). p.is_overridden ≡ false) ps → ((b : FollowedInclude) → Contains bs b → overrides_in row b ≡ false) → ps ≡ map (marked_in row bs) ps
 unfolding with_mark
 none_marked row bs [] u h = refl
 none_marked row bs (p ∷ ps) u h =
@@ -138,7 +138,7 @@ none_marked row bs (p ∷ ps) u h =
     let rest = none_marked row bs ps u.1 h in
     λ i. first i ∷ rest i
 
-module _ (row : List code.WrittenComponent) (bs : List Brought) (i : ℕ) (d : Brought) (l : i < length bs) where
+module _ (row : List code.WrittenComponent) (bs : List FollowedInclude) (i : ℕ) (d : FollowedInclude) (l : i < length bs) where
   pub step_marked : (ps xs ys ms : List Piece) (from to : ℕ) → xs ≡ map (marked_in row (take i bs)) ps → overrides_in row (get_or bs i d) ≡ true → ArePiecesIn xs (get_or bs i d) from to
       → ms ≡ map marked (mid_of from (to - from) xs) → ys ≡ put_mid from (to - from) xs ms → ys ≡ map (marked_in row (take (i + 1) bs)) ps
   step_marked ps xs ys ms from to e o a m y =
@@ -148,7 +148,7 @@ module _ (row : List code.WrittenComponent) (bs : List Brought) (i : ℕ) (d : B
   pub step_same : (ps xs : List Piece) → xs ≡ map (marked_in row (take i bs)) ps → overrides_in row (get_or bs i d) ≡ false → xs ≡ map (marked_in row (take (i + 1) bs)) ps
   step_same ps xs e o = e ∙ marks_same row (take i bs) (get_or bs i d) ps o ∙ ap (λ cs. map (marked_in row cs) ps) (sym (take_more bs i d l))
 
-  pub step_none : ((b : Brought) → Contains (take i bs) b → overrides_in row b ≡ false) → overrides_in row (get_or bs i d) ≡ false → (b : Brought) → Contains (take (i + 1) bs) b → overrides_in row b ≡ false
+  pub step_none : ((b : FollowedInclude) → Contains (take i bs) b → overrides_in row b ≡ false) → overrides_in row (get_or bs i d) ≡ false → (b : FollowedInclude) → Contains (take (i + 1) bs) b → overrides_in row b ≡ false
   step_none h o b c =
       let c' : Contains (take i bs ++ get_or bs i d ∷ []) b = subst (λ cs. Contains cs b) (take_more bs i d l) c in
       elim (Contains-push_cases (take i bs) (get_or bs i d) b c') [ inl k ↦ h b k | inr e ↦ ap (overrides_in row) (sym e) ∙ o ]

@@ -7,7 +7,7 @@ use Rattle.std.proofs.lemmas.List.{get_or-map, length-map}
 use Rattle.std.proofs.lemmas.List.Sorted.{IsNonDecreasingBy-from_all_adjacent}
 use Rattle.std.proofs.lemmas.Option.{get_or_from_slice_get, slice_get_within}
 use Rattle.rn_assemble.specs.declared.including.pieces.Piece.{Piece}
-use Rattle.rn_assemble.specs.declared.including.segments.Brought.{Brought}
+use Rattle.rn_assemble.specs.declared.including.segments.FollowedInclude.{FollowedInclude}
 use Rattle.rn_assemble.specs.inside.Runs.{ArePiecesIn}
 use Rattle.rn_assemble.proofs.KeyPieces.RowFacts.{element_at}
 
@@ -36,7 +36,7 @@ module _ (pieces : List Piece) (place n : ℕ) (parts : PartAt pieces place n) (
   pub is_from_point : place ≤ p.segment → n ≤ i
   is_from_point l = elim (cases_lt i n) [ inl h ↦ absurd (omega (arith, l, before_point h)) | inr h ↦ h ]
 
-pub pieces_between : (pieces : List Piece) (b : Brought) (from to : ℕ) → b.from ≤ b.to → from ≤ length pieces → to ≤ length pieces → PartAt pieces b.from from → PartAt pieces b.to to → ArePiecesIn pieces b from to
+pub pieces_between : (pieces : List Piece) (b : FollowedInclude) (from to : ℕ) → b.from ≤ b.to → from ≤ length pieces → to ≤ length pieces → PartAt pieces b.from from → PartAt pieces b.to to → ArePiecesIn pieces b from to
 pieces_between pieces b from to ordered l m parts ends = record {
   ordered = elim (cases_lt to from) [
     | inl h ↦

@@ -35,10 +35,10 @@ zip_at R (x ∷ xs) (y ∷ ys) (suc i) z l = zip_at R xs ys i z.1 (omega arith)
 -- the row of a key is one of modules with the segments' contents
 pub row_in : (modules : List NamedModule) (k : Key) (cs : List Component) (row : List code.WrittenComponent) (x : Segments) → IsRowOf modules k row → AreSegmentsOf modules x cs → IsRowIn x.contents.now row
 row_in modules k cs row x is s =
-    let written : (i : ℕ) (w : code.WrittenComponent) → slice_get row i ≡ Some w → (c : Contents) × (slice_get x.contents.now w.module ≡ Some c) × HasOrderedIncludes c × (w.number < c.count) = λ i w e.
+    let written : (i : ℕ) (w : code.WrittenComponent) → slice_get row i ≡ Some w → (c : Contents) × (slice_get x.contents.now w.module.0 ≡ Some c) × HasOrderedIncludes c × (w.number < c.count) = λ i w e.
     let l = slice_get_within row i w e in
     let h : IsWrittenIn modules w = subst (IsWrittenIn modules) (get_or_from_slice_get row i w w e) (row_written modules k row is i w l) in
-    let z = zip_at (IsContents modules) modules x.contents.now w.module s.are.contents h.0 in
-    let size : length (written_at modules w.module) ≡ z.1.count = ap (λ t. length (option_map_or (λ (m : NamedModule). written_components m.tree.items) t [])) z.2 ∙ sym z.4.count in
-    (z.1, z.3, each_at HasOrderedIncludes x.contents.now w.module z.1 s.ordered z.3, omega (arith, h.1, size)) in
+    let z = zip_at (IsContents modules) modules x.contents.now w.module.0 s.are.contents h.0 in
+    let size : length (written_at modules w.module.0) ≡ z.1.count = ap (λ t. length (option_map_or (λ (m : NamedModule). written_components m.tree.items) t [])) z.2 ∙ sym z.4.count in
+    (z.1, z.3, each_at HasOrderedIncludes x.contents.now w.module.0 z.1 s.ordered z.3, omega (arith, h.1, size)) in
     record { rises = row_rises modules k row is; written = written }

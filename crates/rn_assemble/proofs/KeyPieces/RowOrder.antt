@@ -90,7 +90,7 @@ row_rises modules k row is i j d l m =
 
 -- each component of a row is one of its module's
 abbrev pub IsWrittenIn : List NamedModule → code.WrittenComponent → Type 0
-IsWrittenIn modules w = (w.module < length modules) × (w.number < length (written_at modules w.module))
+IsWrittenIn modules w = (w.module.0 < length modules) × (w.number < length (written_at modules w.module.0))
 
 pub row_written : (modules : List NamedModule) (k : Key) (row : List code.WrittenComponent) → IsRowOf modules k row → All (IsWrittenIn modules) row
 row_written modules k row is j d l =
@@ -100,5 +100,5 @@ row_written modules k row is j d l =
     let size = length-map row (placed_view k) in
     let at = keyed j (placed_view k d) (omega (arith, l, size)) in
     let r : P (placed_view k (get_or row j d)) = subst P (get_or-map (placed_view k) row j d (placed_view k d) l) at in
-    let e : r.0 ≡ (get_or row j d).module = omega (arith, r.1) in
+    let e : r.0 ≡ (get_or row j d).module.0 = omega (arith, r.1) in
     subst (λ i. (i < length modules) × ((get_or row j d).number < length (written_at modules i))) e (r.2, r.3)

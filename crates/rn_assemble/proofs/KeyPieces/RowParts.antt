@@ -12,7 +12,7 @@ use Rattle.rn_assemble.specs.inside.Rows.{IsRowOf, Placed, all_placed, placed_fr
 
 -- whether a component is of the module and its number within the range
 abbrev pub is_within : (m from to : ℕ) → code.WrittenComponent → Bool
-is_within m from to w = (w.module == m) && (not (nat_lt w.number from) && nat_lt w.number to)
+is_within m from to w = (w.module.0 == m) && (not (nat_lt w.number from) && nat_lt w.number to)
 
 abbrev placed_within : (m from to : ℕ) → Placed → Bool
 placed_within m from to p = (p.module_at == m) && (not (nat_lt p.number from) && nat_lt p.number to)

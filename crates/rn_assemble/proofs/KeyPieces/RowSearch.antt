@@ -13,19 +13,19 @@ use Rattle.rn_assemble.proofs.KeyPieces.Runs.{within_holds, within_says}
 
 -- the component is of a module before m, or of m with a number below another
 abbrev Before : (m from : ℕ) → code.WrittenComponent → Type 0
-Before m from w = (w.module < m) ⊎ ((w.module ≡ m) × (w.number < from))
+Before m from w = (w.module.0 < m) ⊎ ((w.module.0 ≡ m) × (w.number < from))
 
 abbrev pub is_before : (m from : ℕ) → code.WrittenComponent → Bool
-is_before m from w = nat_lt w.module m || (nat_eq w.module m && nat_lt w.number from)
+is_before m from w = nat_lt w.module.0 m || (nat_eq w.module.0 m && nat_lt w.number from)
 
 or_parts : (a b : Bool) → (a || b) ≡ true → (a ≡ true) ⊎ (b ≡ true)
 or_parts true b h = inl refl
 or_parts false b h = inr h
 
 before_says : (m from : ℕ) (w : code.WrittenComponent) → is_before m from w ≡ true → Before m from w
-before_says m from w h = elim (or_parts (nat_lt w.module m) (nat_eq w.module m && nat_lt w.number from) h) [
-  | inl l ↦ inl (ltb-true w.module m l)
-  | inr b ↦ let p = and_parts (nat_eq w.module m) (nat_lt w.number from) b in inr (eqb-true w.module m p.0, ltb-true w.number from p.1)
+before_says m from w h = elim (or_parts (nat_lt w.module.0 m) (nat_eq w.module.0 m && nat_lt w.number from) h) [
+  | inl l ↦ inl (ltb-true w.module.0 m l)
+  | inr b ↦ let p = and_parts (nat_eq w.module.0 m) (nat_lt w.number from) b in inr (eqb-true w.module.0 m p.0, ltb-true w.number from p.1)
 ]
 
 or-right : (a : Bool) → (a || true) ≡ true
@@ -33,8 +33,8 @@ or-right true = refl
 or-right false = refl
 
 before_holds : (m from : ℕ) (w : code.WrittenComponent) → Before m from w → is_before m from w ≡ true
-before_holds m from w (inl l) = ap (λ b. b || (nat_eq w.module m && nat_lt w.number from)) (lt-ltb w.module m l)
-before_holds m from w (inr h) = (λ i. nat_lt w.module m || (eq-eqb w.module m h.0 i && lt-ltb w.number from h.1 i)) ∙ or-right (nat_lt w.module m)
+before_holds m from w (inl l) = ap (λ b. b || (nat_eq w.module.0 m && nat_lt w.number from)) (lt-ltb w.module.0 m l)
+before_holds m from w (inr h) = (λ i. nat_lt w.module.0 m || (eq-eqb w.module.0 m h.0 i && lt-ltb w.number from h.1 i)) ∙ or-right (nat_lt w.module.0 m)
 
 not_before : (m from : ℕ) (w : code.WrittenComponent) → is_before m from w ≡ false → ¬ Before m from w
 not_before m from w h b = false≢true (sym h ∙ before_holds m from w b)
@@ -75,7 +75,7 @@ module _ (row : List code.WrittenComponent) (rises : IsOrderedRow row) (m from :
             | inl less ↦ elim (subst (λ x. Precedes x v) (get_or_from_slice_get row n w d at) (rises n k d less within)) [
               | inl p ↦ here (inl (omega (arith, p, s.0)))
               | inr p ↦
-                  let same : w.module ≡ m = p.0 ∙ s.0 in
+                  let same : w.module.0 ≡ m = p.0 ∙ s.0 in
                   let low : from ≤ w.number = elim (cases_lt w.number from) [ inl b ↦ absurd (here (inr (same, b))) | inr b ↦ b ] in
                   false≢true (sym h ∙ within_holds m from to w same low (omega (arith, p.1, s.2)))
             ]
@@ -94,11 +94,11 @@ module _ (row : List code.WrittenComponent) (rises : IsOrderedRow row) (m from :
       ])
 
       -- of another module
-      pub none_of_other : nat_eq w.module m ≡ false → list_any (is_within m from to) row ≡ false
-      none_of_other e = none_from (false_from_ne_true (is_within m from to w) (λ t. eqb-false w.module m e (within_says m from to w t).0))
+      pub none_of_other : nat_eq w.module.0 m ≡ false → list_any (is_within m from to) row ≡ false
+      none_of_other e = none_from (false_from_ne_true (is_within m from to w) (λ t. eqb-false w.module.0 m e (within_says m from to w t).0))
 
       -- of the module itself
-      pub first_tells : w.module ≡ m → nat_lt w.number to ≡ list_any (is_within m from to) row
+      pub first_tells : w.module.0 ≡ m → nat_lt w.number to ≡ list_any (is_within m from to) row
       first_tells e = elim (cases_Bool (nat_lt w.number to)) [
         | inl yes' ↦
             let low : from ≤ w.number = elim (cases_lt w.number from) [ inl b ↦ absurd (here (inr (e, b))) | inr b ↦ b ] in

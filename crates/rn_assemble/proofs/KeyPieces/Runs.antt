@@ -39,17 +39,17 @@ module _ {X : Type 0} (p : X → Bool) where
       ∙ ap (λ n. take n (drop a xs)) (sym e)
 
 -- the test of a range, as facts
-pub within_holds : (m from to : ℕ) (w : code.WrittenComponent) → w.module ≡ m → from ≤ w.number → w.number < to → is_within m from to w ≡ true
+pub within_holds : (m from to : ℕ) (w : code.WrittenComponent) → w.module.0 ≡ m → from ≤ w.number → w.number < to → is_within m from to w ≡ true
 within_holds m from to w e l h =
-    ap (λ b. b && (not (nat_lt w.number from) && nat_lt w.number to)) (eq-eqb w.module m e)
+    ap (λ b. b && (not (nat_lt w.number from) && nat_lt w.number to)) (eq-eqb w.module.0 m e)
     ∙ ap (λ b. not b && nat_lt w.number to) (le-ltb w.number from l)
     ∙ lt-ltb w.number to h
 
-pub within_says : (m from to : ℕ) (w : code.WrittenComponent) → is_within m from to w ≡ true → (w.module ≡ m) × (from ≤ w.number) × (w.number < to)
+pub within_says : (m from to : ℕ) (w : code.WrittenComponent) → is_within m from to w ≡ true → (w.module.0 ≡ m) × (from ≤ w.number) × (w.number < to)
 within_says m from to w e =
-    let a = and_parts (w.module == m) (not (nat_lt w.number from) && nat_lt w.number to) e in
+    let a = and_parts (w.module.0 == m) (not (nat_lt w.number from) && nat_lt w.number to) e in
     let b = and_parts (not (nat_lt w.number from)) (nat_lt w.number to) a.1 in
-    (eqb-true w.module m a.0, ltb-false w.number from (not-true (nat_lt w.number from) b.0), ltb-true w.number to b.1)
+    (eqb-true w.module.0 m a.0, ltb-false w.number from (not-true (nat_lt w.number from) b.0), ltb-true w.number to b.1)
 
 -- of two components of a module the one behind isn't in a segment before
 segment_rises : (c : Contents) (a b n m : ℕ) → HasOrderedIncludes c → IsSegmentOf c a n → IsSegmentOf c b m → a ≤ b → n ≤ m
@@ -86,42 +86,42 @@ below_end c a n p l =
 -- a row whose components precede those behind them, and are those of modules with these contents
 pub record IsRowIn (contents : List Contents) (row : List code.WrittenComponent) : Type 0 where
   pub rises : IsOrderedRow row
-  pub written : (i : ℕ) (w : code.WrittenComponent) → slice_get row i ≡ Some w → (c : Contents) × (slice_get contents w.module ≡ Some c) × HasOrderedIncludes c × (w.number < c.count)
+  pub written : (i : ℕ) (w : code.WrittenComponent) → slice_get row i ≡ Some w → (c : Contents) × (slice_get contents w.module.0 ≡ Some c) × HasOrderedIncludes c × (w.number < c.count)
 
 -- no include-free part of a module has components on both sides of an index
 abbrev pub IsParted : List Contents → List code.WrittenComponent → ℕ → Type 0
-IsParted contents row n = (i k j : ℕ) (v u : code.WrittenComponent) (c : Contents) → i < n → n ≤ k → slice_get row i ≡ Some v → slice_get row k ≡ Some u → v.module ≡ u.module
-    → slice_get contents u.module ≡ Some c → IsSegmentOf c v.number j → IsSegmentOf c u.number j → ⊥
+IsParted contents row n = (i k j : ℕ) (v u : code.WrittenComponent) (c : Contents) → i < n → n ≤ k → slice_get row i ≡ Some v → slice_get row k ≡ Some u → v.module.0 ≡ u.module.0
+    → slice_get contents u.module.0 ≡ Some c → IsSegmentOf c v.number j → IsSegmentOf c u.number j → ⊥
 
 -- a run from an index on
 module _ (contents : List Contents) (row : List code.WrittenComponent) (f : IsRowIn contents row) (from to j : ℕ) (w : code.WrittenComponent) (c : Contents)
-    (at : slice_get row from ≡ Some w) (has : slice_get contents w.module ≡ Some c) (in' : IsSegmentOf c w.number j) (run : IsEndOfRun row from w.module (segment_end c j) to) where
-  facts_of : (i : ℕ) (v : code.WrittenComponent) → slice_get row i ≡ Some v → v.module ≡ w.module → HasOrderedIncludes c × (v.number < c.count)
+    (at : slice_get row from ≡ Some w) (has : slice_get contents w.module.0 ≡ Some c) (in' : IsSegmentOf c w.number j) (run : IsEndOfRun row from w.module.0 (segment_end c j) to) where
+  facts_of : (i : ℕ) (v : code.WrittenComponent) → slice_get row i ≡ Some v → v.module.0 ≡ w.module.0 → HasOrderedIncludes c × (v.number < c.count)
   facts_of i v e m =
       let g = f.written i v e in
       let same : g.0 ≡ c = same_Some g.0 c (sym g.1 ∙ ap (slice_get contents) m ∙ has) in
       (subst HasOrderedIncludes same g.2, subst (λ (d : Contents). v.number < d.count) same g.3)
 
-  pub in_run : (i : ℕ) (v : code.WrittenComponent) → slice_get row i ≡ Some v → from ≤ i → i < to → (v.module ≡ w.module) × IsSegmentOf c v.number j × (v.number < segment_end c j)
+  pub in_run : (i : ℕ) (v : code.WrittenComponent) → slice_get row i ≡ Some v → from ≤ i → i < to → (v.module.0 ≡ w.module.0) × IsSegmentOf c v.number j × (v.number < segment_end c j)
   in_run i v e l h =
       let here : i ≡ from → v ≡ w = λ s. same_Some v w (sym e ∙ ap (slice_get row) s ∙ at) in
-      let first : i ≡ from → (v.module ≡ w.module) × IsSegmentOf c v.number j × (v.number < segment_end c j) = λ s.
+      let first : i ≡ from → (v.module.0 ≡ w.module.0) × IsSegmentOf c v.number j × (v.number < segment_end c j) = λ s.
       let end = below_end c w.number j in' (facts_of from w at refl).1 in
-      subst (λ (u : code.WrittenComponent). (u.module ≡ w.module) × IsSegmentOf c u.number j × (u.number < segment_end c j)) (sym (here s)) (refl, in', end) in
-      let later : from < i → (v.module ≡ w.module) × IsSegmentOf c v.number j × (v.number < segment_end c j) = λ s.
+      subst (λ (u : code.WrittenComponent). (u.module.0 ≡ w.module.0) × IsSegmentOf c u.number j × (u.number < segment_end c j)) (sym (here s)) (refl, in', end) in
+      let later : from < i → (v.module.0 ≡ w.module.0) × IsSegmentOf c v.number j × (v.number < segment_end c j) = λ s.
       let inside = run.inside i v s h e in
       let up : w.number < v.number =
       elim (pair_at Precedes row from i w v f.rises s at e) [ inl m ↦ absurd (omega (arith, m, inside.0)) | inr m ↦ m.1 ] in
       (inside.0, record { within = in'.within; begins = omega (arith, up, in'.begins); ends = λ _. inside.1 }, inside.1) in
       elim (cases_lt from i) [ inl s ↦ later s | inr s ↦ first (omega (arith, s, l)) ]
 
-  pub behind_run : (k : ℕ) (v : code.WrittenComponent) → slice_get row k ≡ Some v → to ≤ k → v.module ≡ w.module → segment_end c j ≤ v.number
+  pub behind_run : (k : ℕ) (v : code.WrittenComponent) → slice_get row k ≡ Some v → to ≤ k → v.module.0 ≡ w.module.0 → segment_end c j ≤ v.number
   behind_run k v e l m =
       let next : k ≡ to → segment_end c j ≤ v.number = λ s. run.behind v (ap (slice_get row) (sym s) ∙ e) m in
       let later : to < k → segment_end c j ≤ v.number = λ s.
       let u = get_or row to v in
       let at-u : slice_get row to ≡ Some u = slice_get-get_or row to v (omega (arith, s, slice_get_within row k v e)) in
-      let above : w.module ≤ u.module =
+      let above : w.module.0 ≤ u.module.0 =
       elim (pair_at Precedes row from to w u f.rises run.further at at-u) [ inl h ↦ omega (arith, h) | inr h ↦ omega (arith, h.0) ] in
       elim (pair_at Precedes row to k u v f.rises s at-u e) [
         | inl h ↦ absurd (omega (arith, h, m, above))
@@ -134,7 +134,7 @@ module _ (contents : List Contents) (row : List code.WrittenComponent) (f : IsRo
   parted_more p i k n v u d l h e g m cd a b =
       let later : from ≤ i → ⊥ = λ s.
       let r = in_run i v e s l in
-      let um : u.module ≡ w.module = sym m ∙ r.0 in
+      let um : u.module.0 ≡ w.module.0 = sym m ∙ r.0 in
       let same : d ≡ c = same_Some d c (sym cd ∙ ap (slice_get contents) um ∙ has) in
       let fact = facts_of k u g um in
       let number : n ≡ j = one_segment c v.number n j fact.0 (subst (λ (x : Contents). IsSegmentOf x v.number n) same a) r.1 in
@@ -145,19 +145,19 @@ module _ (contents : List Contents) (row : List code.WrittenComponent) (f : IsRo
       elim (cases_lt i from) [ inl s ↦ p i k n v u d s (omega (arith, h, run.further)) e g m cd a b | inr s ↦ later s ]
 
   -- the run is what the row has of the segment
-  pub run_is : IsParted contents row from → filter (is_within w.module (segment_begin c.includes.items j) (segment_end c j)) row ≡ slice_range row from to
+  pub run_is : IsParted contents row from → filter (is_within w.module.0 (segment_begin c.includes.items j) (segment_end c j)) row ≡ slice_range row from to
   run_is p =
       let b = segment_begin c.includes.items j in
       let e = segment_end c j in
-      let test = is_within w.module b e in
+      let test = is_within w.module.0 b e in
       let before : (i : ℕ) (v : code.WrittenComponent) → slice_get row i ≡ Some v → i < from → test v ≡ false = λ i v s l. false_from_ne_true (test v) (λ t.
-      let h = within_says w.module b e v t in
+      let h = within_says w.module.0 b e v t in
       p i from j v w c l (omega arith) s at h.0 has (record { within = in'.within; begins = h.1; ends = λ _. h.2 }) in') in
       let inside : (i : ℕ) (v : code.WrittenComponent) → slice_get row i ≡ Some v → from ≤ i → i < to → test v ≡ true = λ i v s l h.
       let r = in_run i v s l h in
-      within_holds w.module b e v r.0 r.1.begins r.2 in
+      within_holds w.module.0 b e v r.0 r.1.begins r.2 in
       let behind : (i : ℕ) (v : code.WrittenComponent) → slice_get row i ≡ Some v → to ≤ i → test v ≡ false = λ i v s l. false_from_ne_true (test v) (λ t.
-      let h = within_says w.module b e v t in
+      let h = within_says w.module.0 b e v t in
       let above = behind_run i v s l h.0 in
       omega (arith, above, h.2)) in
       filter_range test row from to (omega (arith, run.further)) run.within before inside behind

@@ -1,6 +1,5 @@
 -- The first places of names in the order of their keys, and sorted.
 use Rattle.std.proofs.Common.{◌≡◌, ◌⊎◌, ℕ, zero, suc, ◌-◌, ◌<◌, ◌≤◌, true, List, [], length, map, get_or, refl, sym, ap, ◌∙◌, subst, arith, Contains, nat_eq, IsPermutation}
-use Rattle.std.specs.List.{IsDistinct}
 use Rattle.std.specs.List.Sorted.{IsStrictlySortedBy}
 use Rattle.std.proofs.lemmas.Cmp.{nat_eq_equiv}
 use Rattle.std.proofs.lemmas.List.Sorted.{Contains-permutation, IsPermutation-map, IsPermutation-sym}
@@ -30,8 +29,8 @@ module _ (modules : List NamedModule) (names : List Text) (sorted : IsStrictlySo
     (places ps : List FirstPlace) (h : AreFirstPlaces modules x names cs places) (moved : IsPermutation places ps) where
   -- what is said of a place in AreFirstPlaces
   abbrev IsFirst : FirstPlace → Type 0
-  IsFirst p = (0 < p.key) × (p.key < suc (length names)) × IsLeftAt modules x (key_at names p.key) p.segment p.number
-      × ((segment number : ℕ) → IsLeftAt modules x (key_at names p.key) segment number → (p.segment < segment) ⊎ ((p.segment ≡ segment) × (p.number ≤ number)))
+  IsFirst p = (0 < p.key.0) × (p.key.0 < suc (length names)) × IsLeftAt modules x (key_at names p.key.0) p.segment p.number
+      × ((segment number : ℕ) → IsLeftAt modules x (key_at names p.key.0) segment number → (p.segment < segment) ⊎ ((p.segment ≡ segment) × (p.number ≤ number)))
 
   is_first : (p : FirstPlace) → Contains ps p → IsFirst p
   is_first p c = contained_each IsFirst places h.each p (Contains-permutation ps places p (IsPermutation-sym places ps moved) c)
@@ -48,9 +47,9 @@ module _ (modules : List NamedModule) (names : List Text) (sorted : IsStrictlySo
   are_firsts : InOrder ps → AreFirsts names sorted [] (all_left modules x) ps
   are_firsts order = record {
     each = λ p c. let f = is_first p c in
-        let name = get_or names (p.key - 1) [] in
-        let key = number_name names p.key f.0 in
-        let (w, there, is) = at_left modules x (key_at names p.key) p.segment p.number f.2 in (
+        let name = get_or names (p.key.0 - 1) [] in
+        let key = number_name names p.key.0 f.0 in
+        let (w, there, is) = at_left modules x (key_at names p.key.0) p.segment p.number f.2 in (
           name,
           record {
             name = key;
@@ -66,18 +65,18 @@ module _ (modules : List NamedModule) (names : List Text) (sorted : IsStrictlySo
         );
     all = λ l y c e s. let has : has_key (name_key y) cs ≡ true = ap (λ k. has_key k cs) (sym e) ∙ left_has l c in
         let (i, within, is) = set_number modules names x cs n are (name_key y) has in
-        let (p, there, same) = map_contained (λ (p : FirstPlace). p.key) places i (h.all i (above_start names y i is) within (ap (λ k. has_key k cs) (sym is) ∙ has)) in
+        let (p, there, same) = map_contained (λ (p : FirstPlace). p.key.0) places i (h.all i (above_start names y i is) within (ap (λ k. has_key k cs) (sym is) ∙ has)) in
         (p, Contains-permutation places ps p moved there, ap (key_at names) same ∙ sym is);
     order = order;
-    once = IsDistinct-IsPermutation nat_eq nat_eq_equiv.symm (map (λ (p : FirstPlace). p.key) places) (map (λ (p : FirstPlace). p.key) ps) (IsPermutation-map (λ (p : FirstPlace). p.key) places ps moved) h.once;
+    once = IsDistinct-IsPermutation nat_eq nat_eq_equiv.symm (map (λ (p : FirstPlace). p.key.0) places) (map (λ (p : FirstPlace). p.key.0) ps) (IsPermutation-map (λ (p : FirstPlace). p.key.0) places ps moved) h.once;
   }
 
   -- the keys of the places, once these are sorted
-  pub defined_in_order : InOrder ps → AreDefinedKeys names cs (map (λ (p : FirstPlace). p.key) ps)
+  pub defined_in_order : InOrder ps → AreDefinedKeys names cs (map (λ (p : FirstPlace). p.key.0) ps)
   defined_in_order order =
       let listed = in_order names sorted [] (all_left modules x) ps (left_rises modules x.brought.items 0 x.list.items) (are_firsts order) in
       record {
-        named = map-map (key_at names) (λ (p : FirstPlace). p.key) ps ∙ listed ∙ ap (map name_key) (none_seen (names_in (map key_of (all_left modules x))) ∙ ap names_in keys_are ∙ sym (names_of_keys cs));
-        within = each_contained (λ k. k < suc (length names)) (map (λ (p : FirstPlace). p.key) ps)
-            (λ k c. let (p, there, is) = map_contained (λ (p : FirstPlace). p.key) ps k c in subst (λ j. j < suc (length names)) is (is_first p there).1);
+        named = map-map (key_at names) (λ (p : FirstPlace). p.key.0) ps ∙ listed ∙ ap (map name_key) (none_seen (names_in (map key_of (all_left modules x))) ∙ ap names_in keys_are ∙ sym (names_of_keys cs));
+        within = each_contained (λ k. k < suc (length names)) (map (λ (p : FirstPlace). p.key.0) ps)
+            (λ k c. let (p, there, is) = map_contained (λ (p : FirstPlace). p.key.0) ps k c in subst (λ j. j < suc (length names)) is (is_first p there).1);
       }

@@ -51,7 +51,7 @@ head_least n m ns up (suc j, l, e) =
     omega (arith, less, e)
 
 -- the first of a row's components, in the order of their numbers
-first_number : (xs : List code.WrittenComponent) (w v : code.WrittenComponent) → AllPairs Precedes xs → slice_get xs 0 ≡ Some w → Contains xs v → v.module ≡ w.module → w.number ≤ v.number
+first_number : (xs : List code.WrittenComponent) (w v : code.WrittenComponent) → AllPairs Precedes xs → slice_get xs 0 ≡ Some w → Contains xs v → v.module.0 ≡ w.module.0 → w.number ≤ v.number
 first_number [] w v pairs e (j, l, is) same = absurd (omega (arith, l))
 first_number (x ∷ xs) w v pairs e (zero, l, is) same =
     let here : w ≡ v = sym (same_Some x w e) ∙ is in
@@ -71,7 +71,7 @@ module _ (modules : List NamedModule) (x : Segments) (k : Key) (row : List code.
     s : Segment
     there : slice_get x.list.items p.segment ≡ Some s
     head : slice_get (parts_in s row) 0 ≡ Some w
-    module_is : w.module ≡ s.module
+    module_is : w.module.0 ≡ s.module.0
     after : s.from ≤ w.number
     before : w.number < s.to
 
@@ -82,7 +82,7 @@ module _ (modules : List NamedModule) (x : Segments) (k : Key) (row : List code.
       let same : p.from + 0 ≡ p.from = omega arith in
       let head : slice_get (parts_in s row) 0 ≡ Some w =
       ap (λ ys. slice_get ys 0) (sym (piece.parts s there)) ∙ range_get row p.from p.to 0 (omega (arith, piece.ordered)) ∙ ap (slice_get row) same ∙ at in
-      let says = within_says s.module s.from s.to w (kept_passes (is_within s.module s.from s.to) row w (got_contained (parts_in s row) 0 w head)) in
+      let says = within_says s.module.0 s.from s.to w (kept_passes (is_within s.module.0 s.from s.to) row w (got_contained (parts_in s row) 0 w head)) in
       record { s = s; there = there; head = head; module_is = says.0; after = says.1; before = says.2 }
 
   pub is_left : IsLeftAt modules x k p.segment w.number
@@ -102,16 +102,16 @@ module _ (modules : List NamedModule) (x : Segments) (k : Key) (row : List code.
   least_at m q h =
       let t = is_there in
       let (c, written, key) = h.written in
-      let (v, there, module_is, number) = row_there modules k row is h.s.module q c written key in
-      let within = within_holds h.s.module h.s.from h.s.to v module_is (omega (arith, number, h.after)) (omega (arith, number, h.before)) in
-      let part = kept_there (is_within h.s.module h.s.from h.s.to) row v there within in
+      let (v, there, module_is, number) = row_there modules k row is h.s.module.0 q c written key in
+      let within = within_holds h.s.module.0 h.s.from h.s.to v module_is (omega (arith, number, h.after)) (omega (arith, number, h.before)) in
+      let part = kept_there (is_within h.s.module.0 h.s.from h.s.to) row v there within in
       let least = head_least p.segment m (map (λ (r : Piece). r.segment) ps) are.rise (left.all m h.s v h.at part h.left) in (
         least,
         λ same.
             let one : h.s ≡ t.s = same_Some h.s t.s (sym h.at ∙ ap (slice_get x.list.items) (sym same) ∙ t.there) in
             let here : Contains (parts_in t.s row) v = subst (λ (s : Segment). Contains (parts_in s row) v) one part in
-            let modules_same : v.module ≡ w.module = module_is ∙ ap (λ (s : Segment). s.module) one ∙ sym t.module_is in
-            let first = first_number (parts_in t.s row) w v (AllPairs-filter Precedes (is_within t.s.module t.s.from t.s.to) row (row_rises modules k row is)) t.head here modules_same in
+            let modules_same : v.module.0 ≡ w.module.0 = module_is ∙ ap (λ (s : Segment). s.module.0) one ∙ sym t.module_is in
+            let first = first_number (parts_in t.s row) w v (AllPairs-filter Precedes (is_within t.s.module.0 t.s.from t.s.to) row (row_rises modules k row is)) t.head here modules_same in
             omega (arith, first, number),
       )
 
@@ -123,15 +123,15 @@ module _ (modules : List NamedModule) (x : Segments) (k : Key) (row : List code.
 module _ (modules : List NamedModule) (x : Segments) (names : List Text) (cs : List Component) where
   -- what is said of a place in AreFirstPlaces
   abbrev pub IsFirst : FirstPlace → Type 0
-  IsFirst p = (0 < p.key) × (p.key < suc (length names)) × IsLeftAt modules x (key_at names p.key) p.segment p.number
-      × ((segment number : ℕ) → IsLeftAt modules x (key_at names p.key) segment number → (p.segment < segment) ⊎ ((p.segment ≡ segment) × (p.number ≤ number)))
+  IsFirst p = (0 < p.key.0) × (p.key.0 < suc (length names)) × IsLeftAt modules x (key_at names p.key.0) p.segment p.number
+      × ((segment number : ℕ) → IsLeftAt modules x (key_at names p.key.0) segment number → (p.segment < segment) ⊎ ((p.segment ≡ segment) × (p.number ≤ number)))
 
   -- the first places of the keys below n
   pub record ArePlacesBelow (n : ℕ) (places : List FirstPlace) : Type 0 where
-    pub once : IsDistinct nat_eq (map (λ (p : FirstPlace). p.key) places)
-    pub below : (k : ℕ) → Contains (map (λ (p : FirstPlace). p.key) places) k → k < n
+    pub once : IsDistinct nat_eq (map (λ (p : FirstPlace). p.key.0) places)
+    pub below : (k : ℕ) → Contains (map (λ (p : FirstPlace). p.key.0) places) k → k < n
     pub each : AllByRecursion IsFirst places
-    pub all : (m : ℕ) → m < n → 0 < m → has_key (key_at names m) cs ≡ true → Contains (map (λ (p : FirstPlace). p.key) places) m
+    pub all : (m : ℕ) → m < n → 0 < m → has_key (key_at names m) cs ≡ true → Contains (map (λ (p : FirstPlace). p.key.0) places) m
 
   pub none_below : ArePlacesBelow 1 []
   unfolding IsDistinct
@@ -142,22 +142,22 @@ module _ (modules : List NamedModule) (x : Segments) (names : List Text) (cs : L
     once = h.once;
     below = λ k c. (let l = h.below k c in omega (arith, l));
     each = h.each;
-    all = below_more (λ m. 0 < m → has_key (key_at names m) cs ≡ true → Contains (map (λ (p : FirstPlace). p.key) places) m) n h.all (λ g t. absurd (false≢true (sym none ∙ t)));
+    all = below_more (λ m. 0 < m → has_key (key_at names m) cs ≡ true → Contains (map (λ (p : FirstPlace). p.key.0) places) m) n h.all (λ g t. absurd (false≢true (sym none ∙ t)));
   }
 
   each_behind : (ps : List FirstPlace) (p : FirstPlace) → AllByRecursion IsFirst ps → IsFirst p → AllByRecursion IsFirst (ps ++ p ∷ [])
   each_behind [] p h f = (f, tt)
   each_behind (q ∷ ps) p h f = (h.0, each_behind ps p h.1 f)
 
-  pub more_below : (n : ℕ) (places : List FirstPlace) (p : FirstPlace) → p.key ≡ n → IsFirst p → ArePlacesBelow n places → ArePlacesBelow (n + 1) (places ++ p ∷ [])
+  pub more_below : (n : ℕ) (places : List FirstPlace) (p : FirstPlace) → p.key.0 ≡ n → IsFirst p → ArePlacesBelow n places → ArePlacesBelow (n + 1) (places ++ p ∷ [])
   more_below n places p e f h =
-      let keys = map (λ (q : FirstPlace). q.key) places in
-      let pushed : map (λ (q : FirstPlace). q.key) (places ++ p ∷ []) ≡ keys ++ n ∷ [] = map-append (λ (q : FirstPlace). q.key) places (p ∷ []) ∙ ap (λ j. keys ++ j ∷ []) e in
+      let keys = map (λ (q : FirstPlace). q.key.0) places in
+      let pushed : map (λ (q : FirstPlace). q.key.0) (places ++ p ∷ []) ≡ keys ++ n ∷ [] = map-append (λ (q : FirstPlace). q.key.0) places (p ∷ []) ∙ ap (λ j. keys ++ j ∷ []) e in
       record {
         once = subst (IsDistinct nat_eq) (sym pushed) (IsDistinct-push nat_eq_equiv keys n h.once (none_same n keys h.below));
         below = λ k c. ⊎_elim (λ d. (let l = h.below k d in omega (arith, l))) (λ s. omega (arith, s)) (Contains-push_cases keys n k (subst (λ ks. Contains ks k) pushed c));
         each = each_behind places p h.each f;
-        all = below_more (λ m. 0 < m → has_key (key_at names m) cs ≡ true → Contains (map (λ (q : FirstPlace). q.key) (places ++ p ∷ [])) m) n
+        all = below_more (λ m. 0 < m → has_key (key_at names m) cs ≡ true → Contains (map (λ (q : FirstPlace). q.key.0) (places ++ p ∷ [])) m) n
             (λ m l g t. subst (λ ks. Contains ks m) (sym pushed) (Contains-append_left keys (n ∷ []) m (h.all m l g t)))
             (λ g t. subst (λ ks. Contains ks n) (sym pushed) (Contains-push keys n));
       }
@@ -185,12 +185,12 @@ no_first modules list k row cs (q ∷ ps) are e = absurd (none-some q (sym e))
 
 pub first_more : (modules : List NamedModule) (x : Segments) (names : List Text) (cs : List Component) (n : ℕ) (row : List code.WrittenComponent) (places : List FirstPlace) (pieces : List Piece) (p : Piece) (w : code.WrittenComponent)
     → 0 < n → n < suc (length names) → IsRowOf modules (key_at names n) row → ArePieces modules x.list.items (key_at names n) row cs pieces → AreLeft modules x (key_at names n) row pieces
-    → slice_get pieces 0 ≡ Some p → slice_get row p.from ≡ Some w → ArePlacesBelow modules x names cs n places → ArePlacesBelow modules x names cs (n + 1) (places ++ record { segment = p.segment; number = w.number; key = n } ∷ [])
+    → slice_get pieces 0 ≡ Some p → slice_get row p.from ≡ Some w → ArePlacesBelow modules x names cs n places → ArePlacesBelow modules x names cs (n + 1) (places ++ record { segment = p.segment; number = w.number; key = record { 0 = n } } ∷ [])
 first_more modules x names cs n row places [] p w above within is are left e at h = absurd (none-some p e)
 first_more modules x names cs n row places (q ∷ ps) p w above within is are left e at h =
     let k = key_at names n in
     let same = same_Some q p e in
     let here = subst (λ r. ArePieces modules x.list.items k row cs (r ∷ ps)) same are in
     let there = subst (λ r. AreLeft modules x k row (r ∷ ps)) same left in
-    more_below modules x names cs n places (record { segment = p.segment; number = w.number; key = n }) refl
+    more_below modules x names cs n places (record { segment = p.segment; number = w.number; key = record { 0 = n } }) refl
     (above, within, is_left modules x k row cs p ps is here there w at, is_least modules x k row cs p ps is here there w at) h

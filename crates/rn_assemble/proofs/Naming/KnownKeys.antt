@@ -11,7 +11,7 @@ use Rattle.rn_pattern.proofs.Ordered.InOrder.{contains_behind, contains_cases, c
 use Rattle.rn_syntax.specs.Tree as t
 use Rattle.rn_syntax.specs.Tree.{Item, Items}
 use Rattle.rn_assemble.specs.Components.{Component, Key, NamedModule, has_key, name_key, same_key, start_key}
-use Rattle.rn_assemble.specs.declared.including.segments.Brought.{Brought}
+use Rattle.rn_assemble.specs.declared.including.segments.FollowedInclude.{FollowedInclude}
 use Rattle.rn_assemble.specs.declared.including.segments.Segment.{Segment}
 use Rattle.rn_assemble.specs.declared.including.segments.Segments.{Segments}
 use Rattle.rn_assemble.specs.inside.Contained.{WrittenComponent, item_written_components, written_components}
@@ -81,13 +81,13 @@ has_there k (d ∷ cs) c there is = elim (contains_cases d c cs there) [
 ]
 
 -- a component that is left in a segment was written
-left_written : (modules : List NamedModule) (followed : List Brought) (n : ℕ) (ss : List Segment) (c : Component) → Contains (left_from modules followed n ss) c → (i : ℕ) × (w : WrittenComponent) × Contains (written_at modules i) w × (w.key ≡ c.key)
+left_written : (modules : List NamedModule) (followed : List FollowedInclude) (n : ℕ) (ss : List Segment) (c : Component) → Contains (left_from modules followed n ss) c → (i : ℕ) × (w : WrittenComponent) × Contains (written_at modules i) w × (w.key ≡ c.key)
 left_written modules followed n [] c k = absurd (omega (arith, k.1))
 left_written modules followed n (s ∷ ss) c k = ⊎_elim
     (λ here.
     let in_segment = kept_contained _ (segment_components modules s) c here in
-    let w = map_contained _ (slice_range (written_at modules s.module) s.from s.to) c in_segment in
-    (s.module, w.0, in_range (written_at modules s.module) s.from s.to w.0 w.1, ap (λ (d : Component). d.key) w.2))
+    let w = map_contained _ (slice_range (written_at modules s.module.0) s.from s.to) c in_segment in
+    (s.module.0, w.0, in_range (written_at modules s.module.0) s.from s.to w.0 w.1, ap (λ (d : Component). d.key) w.2))
     (λ behind. left_written modules followed (suc n) ss c behind)
     (Contains-append_cases (filter (λ (d : Component). not (is_overridden modules followed d.key n)) (segment_components modules s)) (left_from modules followed (suc n) ss) c k)
 

@@ -9,7 +9,7 @@ use Rattle.std.proofs.lemmas.Option.{none-some, same_Some}
 use Rattle.rn_text.specs.Texts.{Text}
 use Rattle.rn_syntax.specs.Tree.{Declaration}
 use Rattle.rn_assemble.specs.Components.{Component, Key, NamedModule}
-use Rattle.rn_assemble.specs.declared.including.segments.Brought.{Brought}
+use Rattle.rn_assemble.specs.declared.including.segments.FollowedInclude.{FollowedInclude}
 use Rattle.rn_assemble.specs.declared.including.segments.Segment.{Segment}
 use Rattle.rn_assemble.specs.declared.including.segments.Segments.{Segments}
 use Rattle.rn_assemble.specs.inside.Contained.{WrittenComponent}
@@ -39,9 +39,9 @@ not_true : (b : Bool) → not b ≡ true → b ≡ false
 not_true true e = let wrong : false ≡ true = e in cc
 not_true false e = refl
 
-module _ (modules : List NamedModule) (followed : List Brought) where
+module _ (modules : List NamedModule) (followed : List FollowedInclude) where
   abbrev in_segment : ℕ → Segment → List Placed
-  in_segment n s = placed_from n s.from (slice_range (written_at modules s.module) s.from s.to)
+  in_segment n s = placed_from n s.from (slice_range (written_at modules s.module.0) s.from s.to)
 
   abbrev is_left : ℕ → Placed → Bool
   is_left n p = not (is_overridden modules followed p.component.key n)
@@ -54,7 +54,7 @@ module _ (modules : List NamedModule) (followed : List Brought) where
   pub same_keys : (n : ℕ) (ss : List Segment) → map key_of (left_placed n ss) ≡ map (λ (d : Component). d.key) (left_from modules followed n ss)
   same_keys n [] = refl
   same_keys n (s ∷ ss) =
-      let here = kept_alike (rc_str_bytes s.context.inherited.now) (declarations_at modules s.module) (λ k. not (is_overridden modules followed k n)) n s.from (slice_range (written_at modules s.module) s.from s.to) in
+      let here = kept_alike (rc_str_bytes s.context.inherited.now) (declarations_at modules s.module.0) (λ k. not (is_overridden modules followed k n)) n s.from (slice_range (written_at modules s.module.0) s.from s.to) in
       map-append key_of (filter (is_left n) (in_segment n s)) (left_placed (suc n) ss) ∙ (λ i. here i ++ same_keys (suc n) ss i)
       ∙ sym (map-append (λ (d : Component). d.key) (filter (λ (d : Component). not (is_overridden modules followed d.key n)) (segment_components modules s)) (left_from modules followed (suc n) ss))
 
@@ -62,7 +62,7 @@ module _ (modules : List NamedModule) (followed : List Brought) where
 
   of_place : (n : ℕ) (s : Segment) → All (λ (p : Placed). p.module_at ≡ n) (filter (is_left n) (in_segment n s))
   of_place n s =
-      let ws = slice_range (written_at modules s.module) s.from s.to in
+      let ws = slice_range (written_at modules s.module.0) s.from s.to in
       let P = λ (p : Placed). (p.module_at ≡ n) × (s.from ≤ p.number) × (p.number < s.from + length ws) in
       let Q = λ (p : Placed). p.module_at ≡ n in
       All-filter (is_left n) Q (in_segment n s) (All-weaker P Q (λ p h. h.0) (in_segment n s) (All-from_recursion P (in_segment n s) (from_of n s.from ws)))
@@ -83,7 +83,7 @@ module _ (modules : List NamedModule) (followed : List Brought) where
       let Q = λ (p : Placed). suc n ≤ p.module_at in
       let R = λ (p : Placed). All (IsBefore p) (left_placed (suc n) ss) in
       pairs_append IsBefore here (left_placed (suc n) ss)
-      (AllPairs-filter IsBefore (is_left n) (in_segment n s) (from_pairs n s.from (slice_range (written_at modules s.module) s.from s.to)))
+      (AllPairs-filter IsBefore (is_left n) (in_segment n s) (from_pairs n s.from (slice_range (written_at modules s.module.0) s.from s.to)))
       (left_rises (suc n) ss)
       (recursion_from_All R here (All-weaker (λ (p : Placed). p.module_at ≡ n) R (λ p h. All-weaker Q (IsBefore p) (λ q g. inl (omega (arith, h, g))) (left_placed (suc n) ss) (all_behind (suc n) ss)) here (of_place n s)))
 
@@ -93,12 +93,12 @@ module _ (modules : List NamedModule) (followed : List Brought) where
   record IsLeftIn (s : Segment) (m q : ℕ) (w : WrittenComponent) : Type 0 where
     after : s.from ≤ q
     before : q < s.to
-    written : slice_get (written_at modules s.module) q ≡ Some w
+    written : slice_get (written_at modules s.module.0) q ≡ Some w
     left : is_overridden modules followed w.key m ≡ false
 
   segment_is : (n : ℕ) (s : Segment) (p : Placed) → Contains (filter (is_left n) (in_segment n s)) p → (p.module_at ≡ n) × IsLeftIn s p.module_at p.number p.component
   segment_is n s p c =
-      let ws = written_at modules s.module in
+      let ws = written_at modules s.module.0 in
       let (same, j, number, e) = placed_is n s.from (slice_range ws s.from s.to) p (kept_contained (is_left n) (in_segment n s) p c) in
       let l = range_within ws s.from s.to j p.component e in
       let left = not_true (is_overridden modules followed p.component.key n) (kept_passes (is_left n) (in_segment n s) p c) in (
@@ -113,7 +113,7 @@ module _ (modules : List NamedModule) (followed : List Brought) where
 
   segment_there : (n : ℕ) (s : Segment) (q : ℕ) (w : WrittenComponent) → IsLeftIn s n q w → Contains (filter (is_left n) (in_segment n s)) (placed n q w)
   segment_there n s q w h =
-      let ws = written_at modules s.module in
+      let ws = written_at modules s.module.0 in
       let j = q - s.from in
       let at : q ≡ s.from + j = omega (arith, h.after) in
       let l : s.from + j < s.to = omega (arith, at, h.before) in

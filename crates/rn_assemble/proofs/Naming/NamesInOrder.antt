@@ -118,8 +118,8 @@ InOrder (p ∷ ps) = AllByRecursion (λ (q : FirstPlace). NotAfter p.segment p.n
 module _ (names : List Text) (sorted : IsStrictlySortedBy text_cmp names) where
   -- the place is that of the first component with its key
   pub record IsFirstOf (ls : List Placed) (p : FirstPlace) (x : Text) : Type 0 where
-    pub name : key_at names p.key ≡ name_key x
-    pub within : p.key < suc (length names)
+    pub name : key_at names p.key.0 ≡ name_key x
+    pub within : p.key.0 < suc (length names)
     pub l : Placed
     pub there : Contains ls l
     pub key : key_of l ≡ name_key x
@@ -130,9 +130,9 @@ module _ (names : List Text) (sorted : IsStrictlySortedBy text_cmp names) where
   -- these are the first places of all names but for those that were seen, in order
   pub record AreFirsts (seen : List Text) (ls : List Placed) (ps : List FirstPlace) : Type 0 where
     pub each : (p : FirstPlace) → Contains ps p → (x : Text) × IsFirstOf ls p x × (list_any (bytes_eq x) seen ≡ false)
-    pub all : (l : Placed) (x : Text) → Contains ls l → key_of l ≡ name_key x → list_any (bytes_eq x) seen ≡ false → (p : FirstPlace) × Contains ps p × (key_at names p.key ≡ name_key x)
+    pub all : (l : Placed) (x : Text) → Contains ls l → key_of l ≡ name_key x → list_any (bytes_eq x) seen ≡ false → (p : FirstPlace) × Contains ps p × (key_at names p.key.0 ≡ name_key x)
     pub order : InOrder ps
-    pub once : IsDistinct nat_eq (map (λ (p : FirstPlace). p.key) ps)
+    pub once : IsDistinct nat_eq (map (λ (p : FirstPlace). p.key.0) ps)
 
   behind : (l : Placed) (ls : List Placed) → AllPairs IsBefore (l ∷ ls) → (m : Placed) → Contains ls m → IsBefore l m
   behind l ls h m (k, b, e) = subst (IsBefore l) e (h 0 (suc k) m (omega arith) (omega (arith, b)))
@@ -174,7 +174,7 @@ module _ (names : List Text) (sorted : IsStrictlySortedBy text_cmp names) where
         (⊎_elim (λ e. subst (λ (r : FirstPlace). NotAfter p.segment p.number r.segment r.number) e (inr (refl, omega arith))) (λ k. contained_each (λ (r : FirstPlace). NotAfter p.segment p.number r.segment r.number) ps h.order.0 q k) (contains_cases p q ps c))
         here
 
-    head_key : key_at names p.key ≡ name_key x
+    head_key : key_at names p.key.0 ≡ name_key x
     head_key =
         let (y, f, n) = h.each p (contains_front p ps) in
         ⊎_elim (λ e. f.name ∙ sym f.key ∙ sym (ap key_of e) ∙ is)
@@ -182,12 +182,12 @@ module _ (names : List Text) (sorted : IsStrictlySortedBy text_cmp names) where
         absurd (not_before p.segment p.number l.module_at l.number not_after b))
         (contains_cases l f.l ls f.there)
 
-    no_other : (q : FirstPlace) (y : Text) → Contains ps q → key_at names q.key ≡ name_key y → q.key < suc (length names) → ¬ (y ≡ x)
+    no_other : (q : FirstPlace) (y : Text) → Contains ps q → key_at names q.key.0 ≡ name_key y → q.key.0 < suc (length names) → ¬ (y ≡ x)
     no_other q y c name within e =
         let first = (h.each p (contains_front p ps)).1 in
-        let far = contained_each (λ k. nat_eq p.key k ≡ false) (map (λ (r : FirstPlace). r.key) ps) (IsDistinct-head nat_eq p.key (map (λ (r : FirstPlace). r.key) ps) h.once) q.key (map_contains (λ (r : FirstPlace). r.key) ps q c) in
-        let same : p.key ≡ q.key = same_at names sorted p.key q.key first.within within (head_key ∙ ap name_key (sym e) ∙ sym name) in
-        false≢true (sym far ∙ (Decides-eqb p.key q.key).1 same)
+        let far = contained_each (λ k. nat_eq p.key.0 k ≡ false) (map (λ (r : FirstPlace). r.key.0) ps) (IsDistinct-head nat_eq p.key.0 (map (λ (r : FirstPlace). r.key.0) ps) h.once) q.key.0 (map_contains (λ (r : FirstPlace). r.key.0) ps q c) in
+        let same : p.key.0 ≡ q.key.0 = same_at names sorted p.key.0 q.key.0 first.within within (head_key ∙ ap name_key (sym e) ∙ sym name) in
+        false≢true (sym far ∙ (Decides-eqb p.key.0 q.key.0).1 same)
 
     rest : AreFirsts (x ∷ seen) ls ps
     rest = record {
@@ -208,22 +208,22 @@ module _ (names : List Text) (sorted : IsStrictlySortedBy text_cmp names) where
           );
       all = λ m y c key n. let parts = neither (bytes_eq y x) (list_any (bytes_eq y) seen) n in
           let (q, d, name) = h.all m y (contains_behind l m ls c) key parts.1 in
-          ⊎_elim (λ e. let same : y ≡ x = keyed_name y x (sym name ∙ ap (λ (r : FirstPlace). key_at names r.key) (sym e) ∙ head_key) in
+          ⊎_elim (λ e. let same : y ≡ x = keyed_name y x (sym name ∙ ap (λ (r : FirstPlace). key_at names r.key.0) (sym e) ∙ head_key) in
           absurd (false≢true (sym parts.0 ∙ (bytes_eq-Decides y x).1 same)))
           (λ k. (q, k, name)) (contains_cases p q ps d);
       order = h.order.1;
-      once = IsDistinct-tail nat_eq p.key (map (λ (r : FirstPlace). r.key) ps) h.once;
+      once = IsDistinct-tail nat_eq p.key.0 (map (λ (r : FirstPlace). r.key.0) ps) h.once;
     }
 
   abbrev Listed : List Text → List Placed → List FirstPlace → Type 0
-  Listed seen ls ps = map (λ (p : FirstPlace). key_at names p.key) ps ≡ map name_key (filter (is_new seen) (names_in (map key_of ls)))
+  Listed seen ls ps = map (λ (p : FirstPlace). key_at names p.key.0) ps ≡ map name_key (filter (is_new seen) (names_in (map key_of ls)))
 
   new_name : (seen : List Text) (l : Placed) (ls : List Placed) (ps : List FirstPlace) (x : Text) → AllPairs IsBefore (l ∷ ls) → AreFirsts seen (l ∷ ls) ps → key_of l ≡ name_key x → list_any (bytes_eq x) seen ≡ false
       → ((qs : List FirstPlace) → AreFirsts (x ∷ seen) ls qs → Listed (x ∷ seen) ls qs) → Listed seen (l ∷ ls) ps
   new_name seen l ls [] x pairs h is n f = let (q, c, name) = h.all l x (contains_front l ls) is n in absurd (omega (arith, c.1))
   new_name seen l ls (p ∷ ps) x pairs h is n f =
       let others = names_in (map key_of ls) in
-      let here : key_at names p.key ≡ name_key x = head_key seen l ls p ps x pairs h is n in
+      let here : key_at names p.key.0 ≡ name_key x = head_key seen l ls p ps x pairs h is n in
       let behind_it = f ps (rest seen l ls p ps x pairs h is n) ∙ ap (map name_key) (sym (one_more seen x others)) in
       (λ i. here i ∷ behind_it i)
       ∙ sym (ap (λ k. map name_key (filter (is_new seen) (first_of k others))) is

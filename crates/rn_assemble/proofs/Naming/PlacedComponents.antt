@@ -60,16 +60,16 @@ module _ (modules : List NamedModule) (k : Key) (row : List code.WrittenComponen
   keyed p = same_key k p.component.key
 
   -- a component of the key is in its row
-  pub row_there : (m q : ℕ) (w : WrittenComponent) → slice_get (written_at modules m) q ≡ Some w → w.key ≡ k → (v : code.WrittenComponent) × Contains row v × (v.module ≡ m) × (v.number ≡ q)
+  pub row_there : (m q : ℕ) (w : WrittenComponent) → slice_get (written_at modules m) q ≡ Some w → w.key ≡ k → (v : code.WrittenComponent) × Contains row v × (v.module.0 ≡ m) × (v.number ≡ q)
   row_there m q w e key =
       let kept = kept_there keyed (all_placed modules) (placed m q w) (in_there 0 m m q modules w (omega arith) e) ((same_key-Decides k w.key).1 (sym key)) in
       let (v, there, same) = map_contained (placed_view k) row (placed m q w) (subst (λ ps. Contains ps (placed m q w)) (sym is) kept) in
       (v, there, ap (λ (p : Placed). p.module_at) same, ap (λ (p : Placed). p.number) same)
 
   -- a component of the row is the one of its module with its number
-  pub row_is_written : (v : code.WrittenComponent) → Contains row v → slice_get (written_at modules v.module) v.number ≡ Some (placed_view k v).component
+  pub row_is_written : (v : code.WrittenComponent) → Contains row v → slice_get (written_at modules v.module.0) v.number ≡ Some (placed_view k v).component
   row_is_written v c =
       let kept = subst (λ ps. Contains ps (placed_view k v)) is (map_contains (placed_view k) row v c) in
       let (i, at, e) = in_is 0 modules (placed_view k v) (kept_contained keyed (all_placed modules) (placed_view k v) kept) in
-      let same : i ≡ v.module = omega (arith, at) in
+      let same : i ≡ v.module.0 = omega (arith, at) in
       subst (λ j. slice_get (written_at modules j) v.number ≡ Some (placed_view k v).component) same e

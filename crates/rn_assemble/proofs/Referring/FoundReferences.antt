@@ -4,7 +4,7 @@ use Rattle.std.specs.Prelude.{◌↔◌, map, slice_get, slice_range}
 use Rattle.std.specs.List.{AllByRecursion}
 use Rattle.std.specs.Option.{option_map_or}
 use Rattle.std.specs.Rc.{rc_str_bytes}
-use Rattle.std.proofs.lemmas.List.{get_or-drop, get_or-take, length-drop, length-take, length-take-le}
+use Rattle.std.proofs.lemmas.List.{get_or-drop, get_or-take, length-drop, length-take-le}
 use Rattle.std.proofs.lemmas.Option.{get_or_from_slice_get, slice_get_read, slice_get_within}
 use Rattle.rn_pattern.proofs.Ordered.InOrder.{contained_each, each_contained}
 use Rattle.rn_pattern.specs.Reached.{RefersTo}
@@ -68,7 +68,7 @@ module _ (modules : List NamedModule) (list : List Segment) (k : Key) (row : Lis
       some (s ∷ ss) (suc n) h = some ss n (omega (arith, h))
 
   resolves : (s : Segment) (w : code.WrittenComponent) → Resolves w (component_in modules k s w)
-  resolves s w = record { inherited = rc_str_bytes s.context.inherited.now; declarations = declarations_at modules s.module; body_is = refl }
+  resolves s w = record { inherited = rc_str_bytes s.context.inherited.now; declarations = declarations_at modules s.module.0; body_is = refl }
 
   of_piece : (p : Piece) (s : Segment) → slice_get list p.segment ≡ Some s → piece_components modules list k row p ≡ map (component_in modules k s) (slice_range row p.from p.to)
   of_piece p s e = ap (λ o. option_map_or (λ (t : Segment). map (component_in modules k t) (slice_range row p.from p.to)) o []) e

@@ -19,6 +19,7 @@ use Rattle.rn_assemble.specs.inside.Views.{texts_of}
 use Rattle.rn_pattern.specs.declared.adjacency.references.Reach.{Reach}
 use Rattle.rn_pattern.specs.declared.adjacency.references.Reach.TheVariants.{Everywhere, OutsideElements}
 use Rattle.rn_assemble.specs.declared.by_key.references.Reference.{Reference}
+use Rattle.rn_assemble.specs.declared.reading.keys.KeyId.{KeyId}
 use Rattle.rn_assemble.proofs.Referring.KeyNumbers.{not_itself, numbered_name, same_number}
 
 -- what is read where there is no text
@@ -51,9 +52,9 @@ not_none None h e = false≢true h
 not_none (Some x) h e = cc
 
 -- a name's number, found or not, tells whether the name has a mark
-pub marked_name : (names : List Text) → IsStrictlySortedBy text_cmp names → (marks : List Bool) (x : Text) (o : Option ℕ) → IsFound names x o → (option_map_or (λ k. get_or marks k false) o false ≡ true) ↔ IsMarkedName names marks x
+pub marked_name : (names : List Text) → IsStrictlySortedBy text_cmp names → (marks : List Bool) (x : Text) (o : Option KeyId) → IsFound names x o → (option_map_or (λ (k : KeyId). get_or marks k.0 false) o false ≡ true) ↔ IsMarkedName names marks x
 marked_name names s marks x None f = ((λ e. absurd (false≢true e)), λ m. absurd (f (numbered_name names x m.0 m.1)))
-marked_name names s marks x (Some k) f = ((λ e. (k, f, e)), λ m. ap (λ n. get_or marks n false) (same_number names s x k m.0 f m.1) ∙ m.2)
+marked_name names s marks x (Some k) f = ((λ e. (k.0, f, e)), λ m. ap (λ n. get_or marks n false) (same_number names s x k.0 m.0 f m.1) ∙ m.2)
 
 module _ (names : List Text) (marks : List Bool) where
   abbrev IsMarked : Text → Type 0
@@ -125,19 +126,19 @@ module _ (names texts : List Text) (numbers : List ℕ) (x : Text) (a : AreNumbe
   none_more n = subst (AreNumbers names (texts ++ x ∷ [])) (sym (append-nil numbers)) (number_none n)
 
   -- one name more, where references of a reach are meant
-  pub number_found : (meant r : Reach) (o : Option ℕ) → IsFound names x o → AreNumbers names (texts ++ within meant r x) (numbers ++ number_within meant r o)
+  pub number_found : (meant r : Reach) (o : Option KeyId) → IsFound names x o → AreNumbers names (texts ++ within meant r x) (numbers ++ number_within meant r o)
   number_found Everywhere r None n = none_more n
-  number_found Everywhere r (Some k) i = number_more k i
+  number_found Everywhere r (Some k) i = number_more k.0 i
   number_found OutsideElements Everywhere None n = still
   number_found OutsideElements Everywhere (Some k) i = still
   number_found OutsideElements OutsideElements None n = none_more n
-  number_found OutsideElements OutsideElements (Some k) i = number_more k i
+  number_found OutsideElements OutsideElements (Some k) i = number_more k.0 i
 
 pub no_numbers : (names : List Text) → AreNumbers names [] []
 no_numbers names = record { only = λ m c. absurd (omega (arith, c.1)); all = λ x c n. absurd (omega (arith, c.1)) }
 
-pub below_within : (n : ℕ) (ns : List ℕ) (meant r : Reach) (o : Option ℕ) → AllBelow n ns → IfSome o (λ k. (0 < k) × (k < n)) → AllBelow n (ns ++ number_within meant r o)
+pub below_within : (n : ℕ) (ns : List ℕ) (meant r : Reach) (o : Option KeyId) → AllBelow n ns → IfSome o (λ (k : KeyId). (0 < k.0) × (k.0 < n)) → AllBelow n (ns ++ number_within meant r o)
 below_within n ns meant r None h i = subst (AllBelow n) (sym (append-nil ns)) h
-below_within n ns Everywhere r (Some k) h i = below_push n ns k h i.1
+below_within n ns Everywhere r (Some k) h i = below_push n ns k.0 h i.1
 below_within n ns OutsideElements Everywhere (Some k) h i = subst (AllBelow n) (sym (append-nil ns)) h
-below_within n ns OutsideElements OutsideElements (Some k) h i = below_push n ns k h i.1
+below_within n ns OutsideElements OutsideElements (Some k) h i = below_push n ns k.0 h i.1

@@ -8,8 +8,9 @@ use Rattle.rn_syntax.specs.Tree.{Declaration}
 use Rattle.rn_assemble.specs.Components.{Component, Key, NamedModule, components_within, handed_on, has_key}
 use Rattle.rn_assemble.specs.declared.reading.contents.Contents.{Contents}
 use Rattle.rn_assemble.specs.declared.reading.contents.Include.{Include}
+use Rattle.rn_assemble.specs.declared.reading.named_modules.ModuleId.{ModuleId}
 use Rattle.rn_assemble.specs.declared.resolving.context.Context.{Context}
-use Rattle.rn_assemble.specs.declared.including.segments.Brought.{Brought}
+use Rattle.rn_assemble.specs.declared.including.segments.FollowedInclude.{FollowedInclude}
 use Rattle.rn_assemble.specs.declared.including.segments.Segment.{Segment}
 use Rattle.rn_assemble.specs.declared.including.segments.Segments.{Segments}
 use Rattle.rn_assemble.specs.inside.Contained.{AreFlat, Inclusion, WrittenComponent}
@@ -40,10 +41,10 @@ pub record CanBring (modules : List NamedModule) (x : Segments) : Type 0 where
   pub brought : AllByRecursion (IsBrought modules x.contents.now x.list.items) x.brought.items
 
 -- an include of the list overrides the key, of which it brought nothing in, and its module has the name
-pub record IsLackIn (modules : List NamedModule) (list : List Segment) (followed : List Brought) (y : Text) (k : Key) : Type 0 where
-  pub include : Brought
+pub record IsLackIn (modules : List NamedModule) (list : List Segment) (followed : List FollowedInclude) (y : Text) (k : Key) : Type 0 where
+  pub include : FollowedInclude
   pub among : Contains followed include
-  pub name_is : name_at modules include.module ≡ y
+  pub name_is : name_at modules include.module.0 ≡ y
   pub lacks : IsLackOf modules list include k
 
 -- the segment of that number of a module can be added
@@ -54,13 +55,13 @@ pub record CanAdd (modules : List NamedModule) (x : Segments) (m j : ℕ) (conte
   pub ordered : from ≤ to
   pub to_within : to ≤ length (written_at modules m)
 
--- the include is one of the module, and the context is that of the module
-pub record CanInclude (modules : List NamedModule) (contents : List Contents) (m : ℕ) (context : Context) (include : Include) (ds : List Declaration) : Type 0 where
+-- the include has that number among those of the module, and the context is that of the module
+pub record CanInclude (modules : List NamedModule) (contents : List Contents) (m j : ℕ) (context : Context) (include : Include) (ds : List Declaration) : Type 0 where
   pub within : m < length modules
   pub declarations : ds ≡ declarations_at modules m
   pub binds : BindsAs context.bindings.now ds
-  pub own : (c : Contents) → slice_get contents m ≡ Some c → Contains c.includes.items include
-  pub included : (i : ℕ) → include.module ≡ Some i → i < length modules
+  pub own : (c : Contents) → slice_get contents m ≡ Some c → slice_get c.includes.items j ≡ Some include
+  pub included : (i : ModuleId) → include.module ≡ Some i → i.0 < length modules
   pub ordered : include.from ≤ include.to
   pub to_within : include.to ≤ length (written_at modules m)
 
@@ -90,9 +91,9 @@ pub record Brings (modules : List NamedModule) (old new : Segments) (cs all : Li
   pub contents : new.contents ≡ old.contents
   pub segments : List Segment
   pub list_is : new.list.items ≡ old.list.items ++ segments
-  pub followed : List Brought
+  pub followed : List FollowedInclude
   pub brought_is : new.brought.items ≡ old.brought.items ++ followed
-  pub inside : AllByRecursion (λ (b : Brought). (length old.list.items ≤ b.from) × (b.to ≤ length new.list.items)) followed
+  pub inside : AllByRecursion (λ (b : FollowedInclude). (length old.list.items ≤ b.from) × (b.to ≤ length new.list.items)) followed
   pub left : left_from modules followed (length old.list.items) segments ≡ cs
   pub keys : (k : Key) → some_has_key modules k segments ≡ has_key k all
   pub lacks : (y : Text) (k : Key) → IsLackIn modules new.list.items followed y k ↔ L y k

@@ -17,12 +17,12 @@ pub record IsLeftAt (modules : List NamedModule) (x : Segments) (k : Key) (segme
   pub at : slice_get x.list.items segment ≡ Some s
   pub after : s.from ≤ number
   pub before : number < s.to
-  pub written : (w : WrittenComponent) × (slice_get (written_at modules s.module) number ≡ Some w) × (w.key ≡ k)
+  pub written : (w : WrittenComponent) × (slice_get (written_at modules s.module.0) number ≡ Some w) × (w.key ≡ k)
   pub left : is_overridden modules x.brought.items k segment ≡ false
 
 -- of each name that has components, the place of the first one, each name once
 pub record AreFirstPlaces (modules : List NamedModule) (x : Segments) (names : List Text) (cs : List Component) (places : List FirstPlace) : Type 0 where
-  pub once : IsDistinct nat_eq (map (λ (p : FirstPlace). p.key) places)
-  pub each : AllByRecursion (λ (p : FirstPlace). (0 < p.key) × (p.key < suc (length names)) × IsLeftAt modules x (key_at names p.key) p.segment p.number
-      × ((segment number : ℕ) → IsLeftAt modules x (key_at names p.key) segment number → (p.segment < segment) ⊎ ((p.segment ≡ segment) × (p.number ≤ number)))) places
-  pub all : (n : ℕ) → 0 < n → n < suc (length names) → has_key (key_at names n) cs ≡ true → Contains (map (λ (p : FirstPlace). p.key) places) n
+  pub once : IsDistinct nat_eq (map (λ (p : FirstPlace). p.key.0) places)
+  pub each : AllByRecursion (λ (p : FirstPlace). (0 < p.key.0) × (p.key.0 < suc (length names)) × IsLeftAt modules x (key_at names p.key.0) p.segment p.number
+      × ((segment number : ℕ) → IsLeftAt modules x (key_at names p.key.0) segment number → (p.segment < segment) ⊎ ((p.segment ≡ segment) × (p.number ≤ number)))) places
+  pub all : (n : ℕ) → 0 < n → n < suc (length names) → has_key (key_at names n) cs ≡ true → Contains (map (λ (p : FirstPlace). p.key.0) places) n

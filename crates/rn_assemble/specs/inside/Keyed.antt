@@ -7,6 +7,7 @@ use Rattle.rn_text.specs.Texts.{Text, text_cmp}
 use Rattle.rn_syntax.specs.Tree as t
 use Rattle.rn_syntax.specs.Tree.{Item, Items}
 use Rattle.rn_assemble.specs.Components.{Key, start_key, name_key, NamedModule}
+use Rattle.rn_assemble.specs.declared.reading.keys.KeyId.{KeyId}
 
 -- the names that items define, those of includes' own items among them
 abbrev mutual
@@ -50,6 +51,6 @@ pub record IsNameNumber (names : List Text) (x : Text) (n : ℕ) : Type 0 where
   pub is : key_at names n ≡ name_key x
 
 -- the number of the name, where it is one of the names
-abbrev pub IsFound : List Text → Text → Option ℕ → Type 0
+abbrev pub IsFound : List Text → Text → Option KeyId → Type 0
 IsFound names x None = ¬ Contains names x
-IsFound names x (Some n) = IsNameNumber names x n
+IsFound names x (Some k) = IsNameNumber names x k.0

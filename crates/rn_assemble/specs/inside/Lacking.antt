@@ -37,10 +37,10 @@ LacksFrom modules numbers y k = (n : ℕ) × Contains numbers n × LacksWithin (
 -- the numbers of the least module of which P holds for some key, and of the least key there, or P holds of none
 abbrev pub IsLeastLack : List NamedModule → List Text → (Text → Key → Type 0) → Option Lack → Type 0
 IsLeastLack modules names P None = (y : Text) (k : Key) → ¬ P y k
-IsLeastLack modules names P (Some l) = (l.«module» < length modules) × (l.key < suc (length names))
-    × IsLeast text_cmp (λ y. (k : Key) × P y k) (name_at modules l.«module») × IsLeast key_cmp (P (name_at modules l.«module»)) (key_at names l.key)
+IsLeastLack modules names P (Some l) = (l.«module».0 < length modules) × (l.key.0 < suc (length names))
+    × IsLeast text_cmp (λ y. (k : Key) × P y k) (name_at modules l.«module».0) × IsLeast key_cmp (P (name_at modules l.«module».0)) (key_at names l.key.0)
 
 -- the lack of the lesser module; of one module, the one that was met before
 abbrev pub IsLesser : (held : Option Lack) → (other l : Lack) → Type 0
 IsLesser None other l = l ≡ other
-IsLesser (Some held) other l = ((held.«module» ≤ other.«module») × (l ≡ held)) ⊎ ((other.«module» < held.«module») × (l ≡ other))
+IsLesser (Some held) other l = ((held.«module».0 ≤ other.«module».0) × (l ≡ held)) ⊎ ((other.«module».0 < held.«module».0) × (l ≡ other))

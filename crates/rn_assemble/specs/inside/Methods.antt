@@ -7,6 +7,7 @@ use Rattle.rn_assemble.specs.Components.{Component, Key, has_key, start_key}
 use Rattle.rn_assemble.specs.Combine.{is_plain, is_choice, is_interleave, IsPlainTwice, IsMixed}
 use Rattle.rn_assemble.specs.declared.by_key.checks.MethodFault.{MethodFault}
 use Rattle.rn_assemble.specs.declared.by_key.checks.MethodFault.TheVariants.{PlainTwice, Mixed}
+use Rattle.rn_assemble.specs.declared.reading.keys.KeyId.{KeyId}
 use Rattle.rn_assemble.specs.declared.refusal.Refusal.{Refusal}
 use Rattle.rn_assemble.specs.declared.refusal.Refusal.TheVariants as r
 use Rattle.rn_assemble.specs.Least.{IsLeast, key_cmp}
@@ -25,9 +26,9 @@ HasFault PlainTwice cs k = IsPlainTwice k cs
 HasFault Mixed cs k = IsMixed k cs
 
 -- the number of the least key of which P holds, or it holds of none
-abbrev pub IsLeastNumber : List Text → (Key → Type 0) → Option ℕ → Type 0
+abbrev pub IsLeastNumber : List Text → (Key → Type 0) → Option KeyId → Type 0
 IsLeastNumber names P None = (k : ℕ) → k < suc (length names) → ¬ P (key_at names k)
-IsLeastNumber names P (Some n) = (n < suc (length names)) × P (key_at names n) × ((k : ℕ) → k < n → ¬ P (key_at names k))
+IsLeastNumber names P (Some n) = (n.0 < suc (length names)) × P (key_at names n.0) × ((k : ℕ) → k < n.0 → ¬ P (key_at names k))
 
 -- no key has two plain components, or components of both methods, and there is a start (RELAX NG 2001, 4.17, 4.18)
 pub record CanCombine (cs : List Component) : Type 0 where

@@ -10,8 +10,9 @@ use Rattle.rn_assemble.specs.Components.{Component, Key, NamedModule}
 use Rattle.rn_assemble.specs.declared.reading.key_rows.KeyRows.{KeyRows}
 use Rattle.rn_assemble.specs.declared.reading.key_rows.WrittenComponent as code
 use Rattle.rn_assemble.specs.declared.reading.keys.Keys.{Keys}
+use Rattle.rn_assemble.specs.declared.reading.named_modules.ModuleId.{ModuleId}
 use Rattle.rn_assemble.specs.declared.including.pieces.Piece.{Piece}
-use Rattle.rn_assemble.specs.declared.including.segments.Brought.{Brought}
+use Rattle.rn_assemble.specs.declared.including.segments.FollowedInclude.{FollowedInclude}
 use Rattle.rn_assemble.specs.declared.including.segments.Segment.{Segment}
 use Rattle.rn_assemble.specs.declared.including.segments.Segments.{Segments}
 use Rattle.rn_assemble.specs.inside.ContentsOf.{declarations_at, resolved_component}
@@ -21,11 +22,11 @@ use Rattle.rn_assemble.specs.inside.Views.{names_of}
 
 -- those components of a row that stand in the segment
 abbrev pub parts_in : Segment → List code.WrittenComponent → List code.WrittenComponent
-parts_in s row = filter (λ (w : code.WrittenComponent). (w.module == s.module) && (not (nat_lt w.number s.from) && nat_lt w.number s.to)) row
+parts_in s row = filter (λ (w : code.WrittenComponent). (w.module.0 == s.module.0) && (not (nat_lt w.number s.from) && nat_lt w.number s.to)) row
 
 -- whether one of the components of a row is one of the include's own
-abbrev pub overrides_in : List code.WrittenComponent → Brought → Bool
-overrides_in row b = list_any (λ (w : code.WrittenComponent). (w.module == b.module) && (not (nat_lt w.number b.own_from) && nat_lt w.number b.own_to)) row
+abbrev pub overrides_in : List code.WrittenComponent → FollowedInclude → Bool
+overrides_in row b = list_any (λ (w : code.WrittenComponent). (w.module.0 == b.module.0) && (not (nat_lt w.number b.own_from) && nat_lt w.number b.own_to)) row
 
 -- the piece has the components of the row that stand in its segment
 pub record IsPiece (list : List Segment) (row : List code.WrittenComponent) (p : Piece) : Type 0 where
@@ -41,7 +42,7 @@ IsOnlyComponent pieces (Some p) = (pieces ≡ p ∷ []) × (p.to - p.from ≡ 1)
 
 -- a component of the key, with its names resolved as in the segment
 abbrev pub component_in : List NamedModule → Key → Segment → code.WrittenComponent → Component
-component_in modules k s w = resolved_component (rc_str_bytes s.context.inherited.now) (declarations_at modules s.module) (placed_view k w).component
+component_in modules k s w = resolved_component (rc_str_bytes s.context.inherited.now) (declarations_at modules s.module.0) (placed_view k w).component
 
 -- the components of a piece of the key
 abbrev pub piece_components : List NamedModule → List Segment → Key → List code.WrittenComponent → Piece → List Component
@@ -66,10 +67,10 @@ pub record AreAllPieces (list : List Segment) (row : List code.WrittenComponent)
   pub all : (n : ℕ) (s : Segment) (w : code.WrittenComponent) → slice_get list n ≡ Some s → Contains (parts_in s row) w → Contains (map (λ (p : Piece). p.segment) pieces) n
 
 -- the number of the least module with an include that overrides the key, of which it brought nothing in, if there is one
-abbrev pub IsLeastLacking : List NamedModule → Segments → Key → Option ℕ → Type 0
-IsLeastLacking modules x k None = (b : Brought) → Contains x.brought.items b → ¬ IsLackOf modules x.list.items b k
-IsLeastLacking modules x k (Some m) = ((b : Brought) × Contains x.brought.items b × (b.module ≡ m) × IsLackOf modules x.list.items b k)
-    × ((b : Brought) → Contains x.brought.items b → IsLackOf modules x.list.items b k → m ≤ b.module)
+abbrev pub IsLeastLacking : List NamedModule → Segments → Key → Option ModuleId → Type 0
+IsLeastLacking modules x k None = (b : FollowedInclude) → Contains x.brought.items b → ¬ IsLackOf modules x.list.items b k
+IsLeastLacking modules x k (Some m) = ((b : FollowedInclude) × Contains x.brought.items b × (b.module.0 ≡ m.0) × IsLackOf modules x.list.items b k)
+    × ((b : FollowedInclude) → Contains x.brought.items b → IsLackOf modules x.list.items b k → m.0 ≤ b.module.0)
 
 -- ---- of which components a contract speaks
 

@@ -35,7 +35,7 @@ pub record IsFirstOf (x : Segments) (m j : ℕ) (u : Text) (first : ℕ) : Type 
 pub record AddsSegment (modules : List NamedModule) (old new : Segments) (m : ℕ) (context : Context) (from to : ℕ) : Type 0 where
   pub segment : Segment
   pub list_is : new.list.items ≡ old.list.items ++ segment ∷ []
-  pub module_is : segment.module ≡ m
+  pub module_is : segment.module.0 ≡ m
   pub context_is : segment.context ≡ context
   pub from_is : segment.from ≡ from
   pub to_is : segment.to ≡ to

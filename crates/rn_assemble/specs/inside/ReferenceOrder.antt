@@ -12,6 +12,7 @@ use Rattle.rn_assemble.specs.declared.by_key.settling_order.KeyOrder.TheVariants
 use Rattle.rn_assemble.specs.Combine.{defined_names, joined_grammar, joined_pattern}
 use Rattle.rn_assemble.specs.Components.{Component, name_key}
 use Rattle.rn_assemble.specs.inside.Keyed.{IsNameNumber, key_at}
+use Rattle.rn_assemble.specs.inside.Views.{key_numbers}
 use Rattle.rn_assemble.specs.inside.Referred.{IsLeastRecursive}
 use Rattle.rn_pattern.specs.Graph.{Reached, is_marked, row}
 
@@ -40,8 +41,8 @@ pub record IsReferenceOrder (names : List Text) (cs : List Component) (order : L
 
 -- the order, where no key that start reaches comes back to itself, or the least that does
 abbrev pub IsKeyOrder : List Text → List Component → KeyOrder → Type 0
-IsKeyOrder names cs (Ordered order) = IsLeastRecursive names cs None × IsReferenceOrder names cs order.items
-IsKeyOrder names cs (Recursive k) = IsLeastRecursive names cs (Some k)
+IsKeyOrder names cs (Ordered order) = IsLeastRecursive names cs None × IsReferenceOrder names cs (key_numbers order.items)
+IsKeyOrder names cs (Recursive k) = IsLeastRecursive names cs (Some k.0)
 
 -- the numbers of the names that the components define, in the order of each one's first component
 pub record AreDefinedKeys (names : List Text) (cs : List Component) (keys : List ℕ) : Type 0 where

@@ -13,6 +13,7 @@ use Rattle.rn_pattern.specs.Graph.{row}
 use Rattle.rn_assemble.specs.Components.{Component}
 use Rattle.rn_assemble.specs.Combine.{joined_pattern, joined_grammar}
 use Rattle.rn_assemble.specs.inside.Keyed.{IsNameNumber, key_at}
+use Rattle.rn_assemble.specs.declared.reading.keys.KeyId.{KeyId}
 use Rattle.rn_assemble.specs.Least.{IsLeast}
 use Rattle.rn_assemble.specs.declared.reading.key_rows.WrittenComponent as code
 use Rattle.rn_assemble.specs.declared.including.pieces.Piece.{Piece}
@@ -92,9 +93,9 @@ pub record AreLiveMarks (pieces : List Piece) (count : ℕ) (marks : List Bool) 
   pub marked : (n : ℕ) → n < count → (slice_index_or marks n false ≡ true) ↔ ((p : Piece) × Contains pieces p × (p.from ≤ n) × (n < p.to))
 
 -- the number of a name that is referred to, if it has one and the reach takes the reference in
-abbrev pub number_within : (meant narrowest : Reach) → Option ℕ → List ℕ
+abbrev pub number_within : (meant narrowest : Reach) → Option KeyId → List ℕ
 number_within meant r None = []
-number_within meant r (Some k) = within meant r k
+number_within meant r (Some k) = within meant r k.0
 
 abbrev pub lesser_text : Option Text → Text → Text
 lesser_text None x = x

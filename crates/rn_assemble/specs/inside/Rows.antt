@@ -35,7 +35,7 @@ with_key k ps = filter (λ (p : Placed). same_key k p.component.key) ps
 
 -- a component of the code, under its key
 abbrev pub placed_view : Key → code.WrittenComponent → Placed
-placed_view k w = record { module_at = w.module; number = w.number; component = record { key = k; method = w.method; pattern = boxed_view w.body } }
+placed_view k w = record { module_at = w.module.0; number = w.number; component = record { key = k; method = w.method; pattern = boxed_view w.body } }
 
 -- the row of that number
 abbrev pub row_at : List (Vec code.WrittenComponent Global) → ℕ → List code.WrittenComponent

@@ -1,5 +1,5 @@
 -- The segments of a set, as they lie in the code, and what includes override in them (RELAX NG 2001, 4.7).
-use Rattle.std.specs.Prelude.{ℕ, suc, ◌+◌, ◌<◌, ◌≤◌, ◌≡◌, ◌&&◌, not, nat_lt, true, false, Bool, List, [], ◌∷◌, ◌++◌, filter, length, map, slice_get, slice_range, Some, Vec, Contains}
+use Rattle.std.specs.Prelude.{ℕ, suc, ◌<◌, ◌≤◌, ◌≡◌, ◌&&◌, not, nat_lt, true, false, Bool, List, [], ◌∷◌, ◌++◌, filter, length, map, slice_get, slice_range, Some, Vec, Contains}
 use Rattle.std.specs.Option.{option_map_or}
 use Rattle.std.specs.declared.alloc.Global.{Global}
 use Rattle.std.specs.Rc.{rc_str_bytes}
@@ -8,7 +8,7 @@ use Rattle.std.specs.List.Sorted.{IsStrictlyIncreasing}
 use Rattle.rn_assemble.specs.Components.{Component, Key, NamedModule, has_key, same_key}
 use Rattle.rn_assemble.specs.declared.reading.contents.Contents.{Contents}
 use Rattle.rn_assemble.specs.declared.reading.contents.Include.{Include}
-use Rattle.rn_assemble.specs.declared.including.segments.Brought.{Brought}
+use Rattle.rn_assemble.specs.declared.including.segments.FollowedInclude.{FollowedInclude}
 use Rattle.rn_assemble.specs.declared.including.segments.Segment.{Segment}
 use Rattle.rn_assemble.specs.declared.including.segments.Segments.{Segments}
 use Rattle.rn_assemble.specs.inside.Contained.{WrittenComponent}
@@ -18,22 +18,22 @@ use Rattle.rn_assemble.specs.inside.ContextBindings.{BindsAs}
 module _ (modules : List NamedModule) where
   -- the components of a segment, with their names resolved
   abbrev pub segment_components : Segment → List Component
-  segment_components s = map (resolved_component (rc_str_bytes s.context.inherited.now) (declarations_at modules s.module)) (slice_range (written_at modules s.module) s.from s.to)
+  segment_components s = map (resolved_component (rc_str_bytes s.context.inherited.now) (declarations_at modules s.module.0)) (slice_range (written_at modules s.module.0) s.from s.to)
 
   -- whether the include's own components have the key
-  abbrev pub overrides : Key → Brought → Bool
-  overrides k b = list_any (λ (w : WrittenComponent). same_key k w.key) (slice_range (written_at modules b.module) b.own_from b.own_to)
+  abbrev pub overrides : Key → FollowedInclude → Bool
+  overrides k b = list_any (λ (w : WrittenComponent). same_key k w.key) (slice_range (written_at modules b.module.0) b.own_from b.own_to)
 
   -- whether the include brought in the segment at a place
-  abbrev pub covers : Brought → ℕ → Bool
+  abbrev pub covers : FollowedInclude → ℕ → Bool
   covers b n = not (nat_lt n b.from) && nat_lt n b.to
 
   -- whether some include that brought the segment at a place in overrides the key
-  abbrev pub is_overridden : List Brought → Key → ℕ → Bool
-  is_overridden followed k n = list_any (λ (b : Brought). covers b n && overrides k b) followed
+  abbrev pub is_overridden : List FollowedInclude → Key → ℕ → Bool
+  is_overridden followed k n = list_any (λ (b : FollowedInclude). covers b n && overrides k b) followed
 
   -- what is left of the segments, of which the first one has the place n
-  abbrev pub left_from : List Brought → ℕ → List Segment → List Component
+  abbrev pub left_from : List FollowedInclude → ℕ → List Segment → List Component
   left_from followed n [] = []
   left_from followed n (s ∷ ss) = filter (λ (c : Component). not (is_overridden followed c.key n)) (segment_components s) ++ left_from followed (suc n) ss
 
@@ -42,7 +42,7 @@ module _ (modules : List NamedModule) where
   some_has_key k ss = list_any (λ (s : Segment). has_key k (segment_components s)) ss
 
   -- the include overrides a key of which it brought nothing in
-  abbrev pub IsLackOf : List Segment → Brought → Key → Type 0
+  abbrev pub IsLackOf : List Segment → FollowedInclude → Key → Type 0
   IsLackOf list b k = (overrides k b ≡ true) × (some_has_key k (slice_range list b.from b.to) ≡ false)
 
 -- the places in the list of that number
@@ -59,21 +59,21 @@ HavePlaces contents places = AllZip (λ (c : Contents) (numbers : Vec (Vec ℕ G
 
 -- the segment is one of a module, under a namespace
 pub record IsSegment (modules : List NamedModule) (contents : List Contents) (s : Segment) : Type 0 where
-  pub module_within : s.module < length modules
-  pub binds : BindsAs s.context.bindings.now (declarations_at modules s.module)
+  pub module_within : s.module.0 < length modules
+  pub binds : BindsAs s.context.bindings.now (declarations_at modules s.module.0)
   pub ordered : s.from ≤ s.to
-  pub within : s.to ≤ length (written_at modules s.module)
+  pub within : s.to ≤ length (written_at modules s.module.0)
 
 -- the segment has that number among those of its module
 pub record HasNumber (contents : List Contents) (m j : ℕ) (s : Segment) : Type 0 where
-  pub module_is : s.module ≡ m
+  pub module_is : s.module.0 ≡ m
   pub begins : option_map_or (λ (c : Contents). segment_begin c.includes.items j) (slice_get contents m) 0 ≡ s.from
   pub ends : option_map_or (λ (c : Contents). segment_end c j) (slice_get contents m) 0 ≡ s.to
 
 -- the place is that of the first segment with the same components under the same namespace
 pub record IsFirstLike (list : List Segment) (n : ℕ) (s : Segment) : Type 0 where
   pub before : s.first ≤ n
-  pub alike : (f : Segment) → slice_get list s.first ≡ Some f → (f.module ≡ s.module) × (f.from ≡ s.from) × (f.to ≡ s.to) × (f.first ≡ s.first)
+  pub alike : (f : Segment) → slice_get list s.first ≡ Some f → (f.module.0 ≡ s.module.0) × (f.from ≡ s.from) × (f.to ≡ s.to) × (f.first ≡ s.first)
       × (rc_str_bytes f.context.inherited.now ≡ rc_str_bytes s.context.inherited.now)
 
 -- the segments are those of modules, and each module has lists of the places of its own
@@ -82,16 +82,16 @@ pub record AreSegments (modules : List NamedModule) (x : Segments) : Type 0 wher
   pub sizes : HavePlaces x.contents.now x.places.items
   pub each : AllByRecursion (IsSegment modules x.contents.now) x.list.items
   pub first : (n : ℕ) (s : Segment) → slice_get x.list.items n ≡ Some s → IsFirstLike x.list.items n s
-  pub placed : (n : ℕ) (s : Segment) → slice_get x.list.items n ≡ Some s → (j : ℕ) × Contains (places_at x.places.items s.module j) n
+  pub placed : (n : ℕ) (s : Segment) → slice_get x.list.items n ≡ Some s → (j : ℕ) × Contains (places_at x.places.items s.module.0 j) n
   pub numbered : (m j n : ℕ) → Contains (places_at x.places.items m j) n → (s : Segment) × (slice_get x.list.items n ≡ Some s) × HasNumber x.contents.now m j s
   pub rise : (m j : ℕ) → IsStrictlyIncreasing (places_at x.places.items m j)
 
 -- the include brought in segments that are there, and its own components are there too
-pub record IsBrought (modules : List NamedModule) (contents : List Contents) (list : List Segment) (b : Brought) : Type 0 where
-  pub module_within : b.module < length modules
+pub record IsBrought (modules : List NamedModule) (contents : List Contents) (list : List Segment) (b : FollowedInclude) : Type 0 where
+  pub module_within : b.module.0 < length modules
   pub own_ordered : b.own_from ≤ b.own_to
-  pub own : (c : Contents) → slice_get contents b.module ≡ Some c → (i : Include) × Contains c.includes.items i × (b.own_from ≡ i.from) × (b.own_to ≡ i.to)
-  pub own_within : b.own_to ≤ length (written_at modules b.module)
+  pub own : (c : Contents) → slice_get contents b.module.0 ≡ Some c → (i : Include) × (slice_get c.includes.items b.number ≡ Some i) × (b.own_from ≡ i.from) × (b.own_to ≡ i.to)
+  pub own_within : b.own_to ≤ length (written_at modules b.module.0)
   pub ordered : b.from ≤ b.to
   pub within : b.to ≤ length list
 

@@ -4,7 +4,7 @@ ghost use Rattle.std.specs.List.{list_any};
 ghost use Rattle.std.specs.List.Sorted.{IsStrictlySortedBy};
 ghost use Rattle.rn_text.specs.Texts.{Text, text_cmp};
 ghost use Rattle.rn_assemble.specs.declared.reading.key_rows.WrittenComponent as code;
-ghost use Rattle.rn_assemble.specs.declared.including.segments.Brought.{Brought};
+ghost use Rattle.rn_assemble.specs.declared.including.segments.FollowedInclude.{FollowedInclude};
 ghost use Rattle.rn_assemble.specs.Combine as spec;
 ghost use Rattle.rn_assemble.specs.Components as specs;
 ghost use Rattle.rn_assemble.specs.Refusal.{Lacks};
@@ -20,8 +20,8 @@ ghost use Rattle.rn_assemble.specs.inside.Views.{AreInOrder, AreNamed, names_of}
 use crate::including::pieces::Piece;
 use crate::including::segments::Segments;
 use crate::reading::key_rows::{KeyRows, WrittenComponent};
-use crate::reading::keys::{Keys, START};
-use crate::reading::named_modules::NamedModule;
+use crate::reading::keys::{KeyId, Keys, START};
+use crate::reading::named_modules::{ModuleId, NamedModule};
 use crate::refusal::Refusal;
 use rn_syntax::Method;
 use std::alloc::{AllocError, Global};
@@ -29,8 +29,8 @@ use std::alloc::{AllocError, Global};
 /// An include of a module that has no component of a key which the include's own components have.
 #[derive(Clone, Copy)]
 pub(crate) struct Lack {
-    pub module: usize,
-    pub key: usize,
+    pub module: ModuleId,
+    pub key: KeyId,
 }
 
 /// What stands against combining the components of a key (RELAX NG 2001, 4.17).
@@ -53,7 +53,8 @@ pub(crate) fn check_overrides(
     requires in_order { AreInOrder modules.now }
     requires known { AreKnownBy (names_of keys.now) rows.now segments.now }
     requires named { (ms : List specs.NamedModule) × AreNamed ms modules.now
-        × ((b : Brought) → Contains segments.now.brought.items b → b.«module» < length ms) }
+        × ((b : FollowedInclude) → Contains segments.now.brought.items b
+        → b.«module».0 < length ms) }
     ensures { (ms : List specs.NamedModule) (cs : List specs.Component) → AreNamed ms modules.now
         → IsStrictlySortedBy text_cmp (names_of keys.now)
         → AreRows ms (names_of keys.now) rows.now.rows.items → AreSegmentsOf ms segments.now cs
@@ -64,7 +65,7 @@ pub(crate) fn check_overrides(
     match least_lack(alloc, rows, segments)? {
         None => Ok(()),
         Some(lack) => Err(Refusal::Override {
-            module: String::from_str(alloc, modules[lack.module].name)?,
+            module: String::from_str(alloc, modules[lack.module.0].name)?,
             key: keys.key(alloc, lack.key)?,
         }),
     }
@@ -77,8 +78,9 @@ fn least_lack(
     segments: &Segments<'_, '_, '_>,
 ) -> Result<Option<Lack>, AllocError>
     requires { AreKnown rows.now segments.now }
-    ensures within { IfOk result (λ o. IfSome o (λ l. (l.key < length rows.now.rows.items)
-        × ((b : Brought) × Contains segments.now.brought.items b × (b.«module» ≡ l.«module»)))) }
+    ensures within { IfOk result (λ o. IfSome o (λ l. (l.key.0 < length rows.now.rows.items)
+        × ((b : FollowedInclude) × Contains segments.now.brought.items b
+        × (b.«module».0 ≡ l.«module».0)))) }
     ensures least { (ms : List specs.NamedModule) (names : List Text) (cs : List specs.Component)
         → IsStrictlySortedBy text_cmp (map (λ (m : specs.NamedModule). m.name) ms)
         → IsStrictlySortedBy text_cmp names
@@ -88,10 +90,11 @@ fn least_lack(
 {
     let mut least: Option<Lack> = None;
     let mut pieces = Vec::new(alloc);
-    for key in 0..rows.len() {
-        let row = rows.row(key);
+    for number in 0..rows.len() {
+        let row = rows.row(KeyId(number));
         segments.all_pieces(row, &mut pieces)?;
         if let Some(module) = segments.least_lacking(row, &pieces) {
+            let key = KeyId(number);
             least = Some(lesser_lack(least, Lack { module, key }));
         }
     }
@@ -144,17 +147,17 @@ fn least_at_fault(
     fault: MethodFault,
     rows: &KeyRows<'_>,
     segments: &Segments<'_, '_, '_>,
-) -> Result<Option<usize>, AllocError>
+) -> Result<Option<KeyId>, AllocError>
     requires { AreKnown rows.now segments.now }
     ensures { OfRows rows.now segments.now (λ names cs. IfOk result
         (IsLeastNumber names (HasFault fault cs))) }
 {
     let mut pieces = Vec::new(alloc);
-    for key in 0..rows.len() {
-        let row = rows.row(key);
+    for number in 0..rows.len() {
+        let row = rows.row(KeyId(number));
         segments.live_pieces(row, &mut pieces)?;
         if has_fault(fault, row, &pieces) {
-            return Ok(Some(key));
+            return Ok(Some(KeyId(number)));
         }
     }
     Ok(None)

@@ -20,19 +20,20 @@ ghost use Rattle.rn_assemble.specs.inside.ReferenceOrder.{AreDefinedKeys};
 ghost use Rattle.rn_assemble.specs.inside.Rows.{AreNameRows, AreRows};
 ghost use Rattle.rn_assemble.specs.inside.Segments.{AreSegmentsOf};
 ghost use Rattle.rn_assemble.specs.inside.Tied.{AreTied};
-ghost use Rattle.rn_assemble.specs.inside.Views.{names_of};
+ghost use Rattle.rn_assemble.specs.inside.Views.{key_number, key_numbers, names_of};
 
 use crate::by_key::checks::uses;
 use crate::grammar::{Definitions, Grammar};
 use crate::including::pieces::Piece;
 use crate::including::segments::Segments;
 use crate::reading::key_rows::{KeyRows, WrittenComponent};
-use crate::reading::keys::{Keys, START};
+use crate::reading::keys::{KeyId, Keys, START};
 use crate::refusal::Refusal;
 use crate::resolving::context::Context;
-use crate::resolving::nodes::{choice, interleave, share_pattern};
+use crate::resolving::nodes::{choice, interleave};
 use crate::resolving::resolution::resolve_pattern;
 use indexmap::IndexMap;
+use rn_pattern::boxes::new_shared;
 use rn_pattern::name_classes::keeps_name_rules;
 use rn_pattern::{Pattern, Seed};
 use rn_syntax::Method;
@@ -56,16 +57,17 @@ pub(crate) fn joined_grammar(
     keys: &Keys<'_>,
     rows: KeyRows<'_>,
     segments: &Segments<'_, '_, '_>,
-    defined: &[usize],
+    defined: &[KeyId],
     order: Vec<usize>,
     seed: &Seed,
 ) -> Result<Grammar, Refusal>
     requires { (ms : List specs.NamedModule) × (cs : List specs.Component)
         × IsStrictlySortedBy text_cmp (names_of keys.now)
         × AreRows ms (names_of keys.now) rows.rows.items × AreSegmentsOf ms segments.now cs
-        × CanBeJoined (names_of keys.now) cs defined.now order.items }
+        × CanBeJoined (names_of keys.now) cs (key_numbers defined.now) order.items }
     ensures { OfKeys keys.now rows.entry segments.now
-        (λ names cs. AreDefinedKeys names cs defined.now → specs.has_key specs.start_key cs ≡ true
+        (λ names cs. AreDefinedKeys names cs (key_numbers defined.now)
+        → specs.has_key specs.start_key cs ≡ true
         → MatchResult result (IsJoinedGrammar cs) (IsMisnamed cs)) }
 {
     let mut rows = rows;
@@ -93,17 +95,17 @@ fn definitions(
     keys: &Keys<'_>,
     rows: &mut KeyRows<'_>,
     segments: &Segments<'_, '_, '_>,
-    defined: &[usize],
+    defined: &[KeyId],
     seed: &Seed,
 ) -> Result<(Definitions, Vec<Vec<u32>>), Refusal>
     requires { (ms : List specs.NamedModule) × (cs : List specs.Component)
         × IsStrictlySortedBy text_cmp (names_of keys.now)
         × AreNameRows ms (names_of keys.now) rows.old.rows.items × AreSegmentsOf ms segments.now cs
-        × AreDefinedKeys (names_of keys.now) cs defined.now }
+        × AreDefinedKeys (names_of keys.now) cs (key_numbers defined.now) }
     ensures { (ms : List specs.NamedModule) (cs : List specs.Component)
         → IsStrictlySortedBy text_cmp (names_of keys.now)
         → AreNameRows ms (names_of keys.now) rows.old.rows.items → AreSegmentsOf ms segments.now cs
-        → AreDefinedKeys (names_of keys.now) cs defined.now
+        → AreDefinedKeys (names_of keys.now) cs (key_numbers defined.now)
         → ¬ BreaksNameRules cs specs.start_key → MatchResult result
         (λ made. AreDefinitions cs made.0.entries made.1.items) (IsMisnamed cs) }
 {
@@ -114,12 +116,8 @@ fn definitions(
         let row = rows.take(alloc, *key);
         match join_key(alloc, row.as_slice(), segments)? {
             Some(joined) => {
-                let Joined {
-                    pattern,
-                    firsts: found,
-                } = joined;
-                firsts.push(found)?;
-                define(alloc, &mut defs, keys.name(*key), pattern)?;
+                firsts.push(joined.firsts)?;
+                define(alloc, &mut defs, keys.name(*key), joined.pattern)?;
             }
             None => least = Some(lesser(least, *key)),
         }
@@ -133,8 +131,8 @@ fn definitions(
 }
 
 /// The lesser of a key and the one that there may be.
-fn lesser(held: Option<usize>, other: usize) -> usize
-    ensures { Some result ≡ lesser other held }
+fn lesser(held: Option<KeyId>, other: KeyId) -> KeyId
+    ensures { Some result.0 ≡ lesser other.0 (key_number held) }
 {
     match held {
         Some(held) if held <= other => held,
@@ -290,8 +288,7 @@ fn repeat(members: &mut Vec<Rc<Pattern>>, begin: usize, count: usize) -> Result<
     Ok(())
 }
 
-/// Adds the patterns of the components with their names resolved. Answers whether all keep the restrictions on name
-/// classes.
+/// Adds the components' patterns with their names resolved. Answers whether all keep the restrictions on name classes.
 fn push_resolved(
     alloc: Global,
     context: Context<'_, '_>,
@@ -305,7 +302,7 @@ fn push_resolved(
         let Some(pattern) = resolve(alloc, context, component)? else {
             return Ok(false);
         };
-        members.push(share_pattern(alloc, pattern)?)?;
+        members.push(new_shared(alloc, pattern)?)?;
     }
     Ok(true)
 }

@@ -11,15 +11,16 @@ ghost use Rattle.rn_assemble.specs.Combine.{joined_grammar};
 ghost use Rattle.rn_assemble.specs.Components.{Component};
 ghost use Rattle.rn_assemble.specs.Least.{IsLeast};
 ghost use Rattle.rn_assemble.specs.declared.including.pieces.Piece as specs_piece;
+ghost use Rattle.rn_assemble.specs.declared.reading.keys.KeyId.{KeyId};
 ghost use Rattle.rn_assemble.specs.inside.Pieces.{AreKnownBy, OfKeys};
 ghost use Rattle.rn_assemble.specs.inside.ReferenceOrder.{AreDefinedKeys};
 ghost use Rattle.rn_assemble.specs.inside.Referred.{AreAllReferences, AreLiveMarks, AreMarksOf, AreNumbers, IsLeastUndefined, KeepsLeast, all_references, lesser_text, marked_references, names_within, number_within, reference_view, references};
-ghost use Rattle.rn_assemble.specs.inside.Views.{names_of};
+ghost use Rattle.rn_assemble.specs.inside.Views.{key_numbers, names_of};
 
 use crate::including::pieces::Piece;
 use crate::including::segments::Segments;
 use crate::reading::key_rows::{KeyRows, WrittenComponent};
-use crate::reading::keys::Keys;
+use crate::reading::keys::{KeyId, Keys};
 use crate::refusal::Refusal;
 use rn_pattern::{NodeReferences, Reach, ReferenceRows};
 use rn_syntax::Pat;
@@ -39,7 +40,7 @@ pub(crate) fn references_of<'s>(
     keys: &Keys<'s>,
     rows: &KeyRows<'s>,
     segments: &Segments<'_, '_, '_>,
-    defined: &[usize],
+    defined: &[KeyId],
 ) -> Result<ReferenceRows, Refusal>
     requires { AreKnownBy (names_of keys.now) rows.now segments.now }
     ensures everywhere { IfOk result (λ r. IsGraph (rows_of r.everywhere)) }
@@ -49,7 +50,7 @@ pub(crate) fn references_of<'s>(
     ensures outside_size { IfOk result (λ r. length (rows_of r.outside)
         ≡ length (names_of keys.now) + 1) }
     ensures found { OfKeys keys.now rows.now segments.now
-        (λ names cs. AreDefinedKeys names cs defined.now → MatchResult result
+        (λ names cs. AreDefinedKeys names cs (key_numbers defined.now) → MatchResult result
         (λ r. AreAllReferences names cs (rows_of r.everywhere) (rows_of r.outside))
         (IsLeastUndefined cs)) }
 {
@@ -59,8 +60,8 @@ pub(crate) fn references_of<'s>(
     let mut row = NodeReferences::new(alloc);
     let mut undefined = None;
     let mut found = ReferenceRows::with_capacity(alloc, rows.len())?;
-    for key in 0..rows.len() {
-        let written = rows.row(key);
+    for number in 0..rows.len() {
+        let written = rows.row(KeyId(number));
         segments.live_pieces(written, &mut pieces)?;
         references_in(alloc, written, &pieces, &mut references)?;
         row_of(keys, &is_defined, &references, &mut undefined, &mut row)?;
@@ -72,14 +73,14 @@ pub(crate) fn references_of<'s>(
     }
 }
 
-/// For each of so many numbers, whether it is one of these.
-fn marks_of(alloc: Global, count: usize, numbers: &[usize]) -> Result<Vec<bool>, AllocError>
-    ensures { IfOk result (λ marks. AreMarksOf numbers.now count marks.items) }
+/// For each of so many keys, whether it is one of these.
+fn marks_of(alloc: Global, count: usize, keys: &[KeyId]) -> Result<Vec<bool>, AllocError>
+    ensures { IfOk result (λ marks. AreMarksOf (key_numbers keys.now) count marks.items) }
 {
     let mut marks = vec![in alloc; false; count]?;
-    for number in numbers {
-        if *number < marks.len() {
-            marks[*number] = true;
+    for key in keys {
+        if key.0 < marks.len() {
+            marks[key.0] = true;
         }
     }
     Ok(marks)
@@ -96,8 +97,7 @@ fn undefined_name(alloc: Global, name: &str) -> Refusal
     }
 }
 
-/// Puts the references of the components of these pieces into `found`, in the place of what it held; those of each
-/// component once.
+/// Puts the references of these pieces' components into `found`, in the place of what it held; of each component once.
 fn references_in<'s>(
     alloc: Global,
     row: &[WrittenComponent<'s>],
@@ -218,24 +218,24 @@ fn row_of<'s>(
 }
 
 /// Whether the key of a name, if the name has one, has a mark.
-fn has_mark(marks: &[bool], key: Option<usize>) -> bool
-    ensures { result ≡ option_map_or (λ k. slice_index_or marks.now k false) key false }
+fn has_mark(marks: &[bool], key: Option<KeyId>) -> bool
+    ensures { result ≡ option_map_or (λ (k : KeyId). slice_index_or marks.now k.0 false) key false }
 {
     match key {
-        Some(key) => marks.get(key).copied().unwrap_or(false),
+        Some(key) => marks.get(key.0).copied().unwrap_or(false),
         None => false,
     }
 }
 
 /// Adds the key of a name that a reference with this narrowest reach refers to, if the name has one.
-fn add_key(row: &mut NodeReferences, key: Option<usize>, reach: Reach) -> Result<(), AllocError>
+fn add_key(row: &mut NodeReferences, key: Option<KeyId>, reach: Reach) -> Result<(), AllocError>
     ensures everywhere { OnOk result (row.new.everywhere.items
         ≡ row.old.everywhere.items ++ number_within Everywhere reach key) }
     ensures outside { OnOk result (row.new.outside.items
         ≡ row.old.outside.items ++ number_within OutsideElements reach key) }
 {
     match key {
-        Some(key) => row.add(key, reach),
+        Some(key) => row.add(key.0, reach),
         None => Ok(()),
     }
 }

@@ -5,6 +5,7 @@ ghost use Rattle.rn_text.specs.Texts.{Text, text_cmp};
 ghost use Rattle.rn_pattern.specs.Graph.{IsGraph, rows_of};
 ghost use Rattle.rn_pattern.specs.Ranks.{rank_of};
 ghost use Rattle.rn_assemble.specs.Components.{Component, NamedModule};
+ghost use Rattle.rn_assemble.specs.declared.reading.keys.KeyId.{KeyId};
 ghost use Rattle.rn_assemble.specs.inside.FirstPlaces.{AreFirstPlaces};
 ghost use Rattle.rn_assemble.specs.inside.Pieces.{AreKnown, OfRows};
 ghost use Rattle.rn_assemble.specs.inside.Rows.{AreRows};
@@ -14,11 +15,11 @@ ghost use Rattle.rn_assemble.specs.inside.Referred.{AreAllReferences};
 ghost use Rattle.std.specs.List.{AllByRecursion, IsDistinct};
 ghost use Rattle.rn_assemble.specs.Combine.{joined_grammar};
 ghost use Rattle.rn_assemble.specs.SettlingOrder.{IsSettlingOrder};
-ghost use Rattle.rn_assemble.specs.inside.Views.{names_of};
+ghost use Rattle.rn_assemble.specs.inside.Views.{key_numbers, names_of};
 
 use crate::including::segments::Segments;
 use crate::reading::key_rows::KeyRows;
-use crate::reading::keys::{Keys, START};
+use crate::reading::keys::{KeyId, Keys, START};
 use rn_pattern::ReferenceRows;
 use rn_pattern::adjacency::graph::{marked_rows, reached_nodes};
 use rn_pattern::adjacency::ranks::{Order, ranks};
@@ -28,9 +29,9 @@ use std::alloc::{AllocError, Global};
 #[derive(Drop)]
 pub(crate) enum KeyOrder {
     /// The keys that start reaches, each behind those that it refers to outside elements.
-    Ordered(Vec<usize>),
+    Ordered(Vec<KeyId>),
     /// The least key that start reaches and that comes back to itself by references outside elements.
-    Recursive(usize),
+    Recursive(KeyId),
 }
 
 /// The keys that start reaches in an order in which each comes after those that it refers to outside elements, or the
@@ -45,7 +46,7 @@ pub(crate) fn key_order(alloc: Global, references: &ReferenceRows) -> Result<Key
         → AreAllReferences names cs (rows_of references.now.everywhere)
         (rows_of references.now.outside) → IfOk result (IsKeyOrder names cs) }
 {
-    let first = references.everywhere.row(START);
+    let first = references.everywhere.row(START.0);
     let reached = reached_nodes(alloc, &references.everywhere, first)?;
     let reached = reached.as_slice();
     let outside = marked_rows(alloc, &references.outside, reached)?;
@@ -54,30 +55,30 @@ pub(crate) fn key_order(alloc: Global, references: &ReferenceRows) -> Result<Key
             let order = marked_in_order(alloc, reached, ranks.as_slice())?;
             Ok(KeyOrder::Ordered(order))
         }
-        Order::Looped(key) => Ok(KeyOrder::Recursive(key)),
+        Order::Looped(key) => Ok(KeyOrder::Recursive(KeyId(key))),
     }
 }
 
-/// The places that have a mark, by the ranks of these.
-fn marked_in_order(alloc: Global, marks: &[bool], ranks: &[usize]) -> Result<Vec<usize>, AllocError>
-    ensures { IfOk result (λ v. IsOrderBy marks.now (rank_of ranks.now) v.items) }
+/// The keys that have a mark, by the ranks of these.
+fn marked_in_order(alloc: Global, marks: &[bool], ranks: &[usize]) -> Result<Vec<KeyId>, AllocError>
+    ensures { IfOk result (λ v. IsOrderBy marks.now (rank_of ranks.now) (key_numbers v.items)) }
 {
-    let mut order = marked_places(alloc, marks)?;
-    order.sort_by_key(|place: &usize| ranks.get(*place).copied().unwrap_or(0))?;
+    let mut order = marked_keys(alloc, marks)?;
+    order.sort_by_key(|key: &KeyId| ranks.get(key.0).copied().unwrap_or(0))?;
     Ok(order)
 }
 
-/// The places that have a mark.
-fn marked_places(alloc: Global, marks: &[bool]) -> Result<Vec<usize>, AllocError>
-    ensures { IfOk result (λ v. ArePlaces marks.now v.items) }
+/// The keys that have a mark.
+fn marked_keys(alloc: Global, marks: &[bool]) -> Result<Vec<KeyId>, AllocError>
+    ensures { IfOk result (λ v. ArePlaces marks.now (key_numbers v.items)) }
 {
-    let mut places = Vec::new(alloc);
-    for place in 0..marks.len() {
-        if marks[place] {
-            places.push(place)?;
+    let mut keys = Vec::new(alloc);
+    for number in 0..marks.len() {
+        if marks[number] {
+            keys.push(KeyId(number))?;
         }
     }
-    Ok(places)
+    Ok(keys)
 }
 
 /// The order in which the definitions that components are joined to can be settled: the indices of definitions in that
@@ -85,12 +86,12 @@ fn marked_places(alloc: Global, marks: &[bool]) -> Result<Vec<usize>, AllocError
 pub(crate) fn settling_order(
     alloc: Global,
     keys: &Keys<'_>,
-    defined: &[usize],
-    order: &[usize],
+    defined: &[KeyId],
+    order: &[KeyId],
 ) -> Result<Vec<usize>, AllocError>
     ensures { (cs : List Component) → IsStrictlySortedBy text_cmp (names_of keys.now)
-        → AreDefinedKeys (names_of keys.now) cs defined.now
-        → IsReferenceOrder (names_of keys.now) cs order.now
+        → AreDefinedKeys (names_of keys.now) cs (key_numbers defined.now)
+        → IsReferenceOrder (names_of keys.now) cs (key_numbers order.now)
         → IfOk result (λ s. IsSettlingOrder (joined_grammar cs) s.items) }
 {
     let numbers = definition_numbers(alloc, keys.len(), defined)?;
@@ -102,7 +103,7 @@ pub(crate) fn settling_order(
 struct FirstPlace {
     segment: usize,
     number: usize,
-    key: usize,
+    key: KeyId,
 }
 
 /// The keys of the names that the components define, in the order of each one's first component.
@@ -110,10 +111,10 @@ pub(crate) fn defined_keys(
     alloc: Global,
     rows: &KeyRows<'_>,
     segments: &Segments<'_, '_, '_>,
-) -> Result<Vec<usize>, AllocError>
+) -> Result<Vec<KeyId>, AllocError>
     requires { AreKnown rows.now segments.now }
     ensures { OfRows rows.now segments.now
-        (λ names cs. IfOk result (λ v. AreDefinedKeys names cs v.items)) }
+        (λ names cs. IfOk result (λ v. AreDefinedKeys names cs (key_numbers v.items))) }
 {
     let mut places = first_places(alloc, rows, segments)?;
     places.sort_by_key(|place: &FirstPlace| (place.segment, place.number))?;
@@ -138,14 +139,14 @@ fn first_places(
 {
     let mut places = Vec::with_capacity(alloc, rows.len())?;
     let mut pieces = Vec::new(alloc);
-    for key in START + 1..rows.len() {
-        let row = rows.row(key);
+    for number in START.0 + 1..rows.len() {
+        let row = rows.row(KeyId(number));
         segments.live_pieces(row, &mut pieces)?;
         if let Some(first) = pieces.first() {
             places.push(FirstPlace {
                 segment: first.segment,
                 number: row[first.from].number,
-                key,
+                key: KeyId(number),
             })?;
         }
     }
@@ -156,30 +157,31 @@ fn first_places(
 pub(crate) fn definition_numbers(
     alloc: Global,
     count: usize,
-    defined: &[usize],
+    defined: &[KeyId],
 ) -> Result<Vec<usize>, AllocError>
-    ensures { IsDistinct nat_eq defined.now → AllByRecursion (λ k. k < count) defined.now
-        → IfOk result (λ v. (i : ℕ) → i < length defined.now
-        → slice_index_or v.items (slice_index_or defined.now i 0) 0 ≡ i) }
+    ensures { IsDistinct nat_eq (key_numbers defined.now)
+        → AllByRecursion (λ k. k < count) (key_numbers defined.now)
+        → IfOk result (λ v. (i : ℕ) → i < length (key_numbers defined.now)
+        → slice_index_or v.items (slice_index_or (key_numbers defined.now) i 0) 0 ≡ i) }
 {
     let mut numbers = vec![in alloc; 0; count]?;
     for number in 0..defined.len() {
         let key = defined[number];
-        if key < numbers.len() {
-            numbers[key] = number;
+        if key.0 < numbers.len() {
+            numbers[key.0] = number;
         }
     }
     Ok(numbers)
 }
 
 /// The number of each of the keys.
-fn numbers_of(alloc: Global, keys: &[usize], numbers: &[usize]) -> Result<Vec<usize>, AllocError>
+fn numbers_of(alloc: Global, keys: &[KeyId], numbers: &[usize]) -> Result<Vec<usize>, AllocError>
     ensures { IfOk result (λ v. v.items
-        ≡ map (λ k. slice_index_or numbers.now k 0) keys.now) }
+        ≡ map (λ (k : KeyId). slice_index_or numbers.now k.0 0) keys.now) }
 {
     let mut found = Vec::with_capacity(alloc, keys.len())?;
     for key in keys {
-        found.push(numbers.get(*key).copied().unwrap_or(0))?;
+        found.push(numbers.get(key.0).copied().unwrap_or(0))?;
     }
     Ok(found)
 }

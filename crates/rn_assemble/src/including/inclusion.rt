@@ -8,11 +8,11 @@ ghost use Rattle.rn_assemble.specs.inside.Included.{AreIncluded};
 ghost use Rattle.rn_assemble.specs.inside.Inclusions.{AreInclusions, IsLeastAmong, IsMissing, entries};
 ghost use Rattle.rn_assemble.specs.inside.Instances.{instances_of};
 ghost use Rattle.rn_assemble.specs.inside.Checked.{IsFirstOfModules};
-ghost use Rattle.rn_assemble.specs.inside.Views.{AreInOrder, modules_view, texts_of};
+ghost use Rattle.rn_assemble.specs.inside.Views.{AreInOrder, module_number, module_numbers, modules_view, texts_of};
 
 use crate::by_key::references::lesser_name;
 use crate::including::instances::{INSTANCE_LIMIT, instances_up_to};
-use crate::reading::named_modules::NamedModule;
+use crate::reading::named_modules::{ModuleId, NamedModule};
 use crate::refusal::Refusal;
 use rn_pattern::Rows;
 use rn_pattern::adjacency::ranks::least_looped;
@@ -25,9 +25,10 @@ use std::cmp::Ordering;
 pub(crate) fn included_roots(
     alloc: Global,
     modules: &[NamedModule<'_>],
-) -> Result<Vec<usize>, Refusal>
+) -> Result<Vec<ModuleId>, Refusal>
     requires { AreInOrder modules.now }
-    ensures { MatchResult result (λ roots. AreIncluded (modules_view modules.now) roots.items)
+    ensures { MatchResult result
+        (λ roots. AreIncluded (modules_view modules.now) (module_numbers roots.items))
         (IsFirstOfModules (modules_view modules.now)) }
 {
     let rows = inclusions(alloc, modules)?;
@@ -43,24 +44,26 @@ pub(crate) fn included_roots(
     Ok(roots)
 }
 
-/// The number of the module of that name.
-pub(crate) fn module_named(modules: &[NamedModule<'_>], name: &str) -> Option<usize>
-    ensures within { IfSome result (λ m. m < length modules.now) }
+/// The module of that name.
+pub(crate) fn module_named(modules: &[NamedModule<'_>], name: &str) -> Option<ModuleId>
+    ensures within { IfSome result (λ m. m.0 < length modules.now) }
     ensures place { AreInOrder modules.now
-        → result ≡ place_in (modules_view modules.now) name.now }
+        → module_number result ≡ place_in (modules_view modules.now) name.now }
 {
     let compare = |module: &NamedModule<'_>| -> Ordering
         ensures { result ≡ text_cmp «module».now.name.now name.entry.now }
     { module.name.cmp(name) };
-    modules.binary_search_by(compare).ok()
+    match modules.binary_search_by(compare) {
+        Ok(place) => Some(ModuleId(place)),
+        Err(_) => None,
+    }
 }
 
 /// For each module, the modules that its includes name. `Missing` names the least module with an include of none, and
 /// the least literal of such an include.
 fn inclusions(alloc: Global, modules: &[NamedModule<'_>]) -> Result<Rows, Refusal>
     requires { AreInOrder modules.now }
-    ensures { MatchResult result
-        (λ rows. AreInclusions (modules_view modules.now) (rows_of rows))
+    ensures { MatchResult result (λ rows. AreInclusions (modules_view modules.now) (rows_of rows))
         (IsFirstOfModules (modules_view modules.now)) }
 {
     let mut rows = Rows::new(alloc);
@@ -106,24 +109,23 @@ fn included_modules(
     let mut row = Vec::new(alloc);
     for literal in wanted {
         if let Some(module) = module_named(modules, literal) {
-            row.push(module)?;
+            row.push(module.0)?;
         }
     }
     Ok(row)
 }
 
 /// The modules that no module includes.
-fn roots(alloc: Global, rows: &Rows) -> Result<Vec<usize>, AllocError>
+fn roots(alloc: Global, rows: &Rows) -> Result<Vec<ModuleId>, AllocError>
     requires { IsGraph (rows_of rows.now) }
-    ensures { IfOk result (λ roots. roots.items ≡ entries (rows_of rows.now)) }
+    ensures { IfOk result (λ roots. module_numbers roots.items ≡ entries (rows_of rows.now)) }
 {
     let included = included_marks(alloc, rows)?;
     let mut roots = Vec::with_capacity(alloc, rows.len())?;
     roots.extend(
-        included
-            .iter()
-            .enumerate()
-            .filter_map(|(module, is_included)| (!*is_included).then_some(module)),
+        included.iter().enumerate().filter_map(|(module, is_included)| (!*is_included).then_some(
+            ModuleId(module),
+        )),
     )?;
     Ok(roots)
 }
@@ -155,12 +157,12 @@ fn mark_row(included: &mut Vec<bool>, row: &[usize])
 }
 
 /// Whether the roots have more instances than a set may have. The count stops there.
-fn has_too_many_instances(rows: &Rows, roots: &[usize]) -> bool
+fn has_too_many_instances(rows: &Rows, roots: &[ModuleId]) -> bool
     requires graph { IsGraph (rows_of rows.now) }
-    requires within { AllBelow (length (rows_of rows.now)) roots.now }
+    requires within { AllBelow (length (rows_of rows.now)) (module_numbers roots.now) }
     ensures { (depth : ℕ) → INSTANCE_LIMIT < depth
-        → (IsTrue result
-        ↔ (INSTANCE_LIMIT < sum_by (instances_of depth (rows_of rows.now)) roots.now)) }
+        → (IsTrue result ↔ (INSTANCE_LIMIT
+        < sum_by (instances_of depth (rows_of rows.now)) (module_numbers roots.now))) }
 {
     let mut count = 0;
     for root in roots {

@@ -1,18 +1,20 @@
 // The pieces of a key: which of the components that modules define under it stand in each segment.
-ghost use Rattle.std.specs.Prelude.{◌≡◌, ◌<◌, ◌≤◌, ◌↔◌, ℕ, Contains, IfOk, IsTrue, Some, false, length, map, min, slice_get};
+ghost use Rattle.std.specs.Prelude.{◌≡◌, ◌<◌, ◌≤◌, ◌↔◌, Contains, IfOk, IsTrue, Some, false, length, map, min, slice_get};
 ghost use Rattle.std.specs.Option.{option_map_or};
 ghost use Rattle.std.specs.List.{AllByRecursion};
 ghost use Rattle.std.specs.List.Sorted.{IsStrictlyIncreasing};
 ghost use Rattle.rn_assemble.specs.declared.reading.contents.Contents.{Contents};
 ghost use Rattle.rn_assemble.specs.declared.reading.contents.Include.{Include};
+ghost use Rattle.rn_assemble.specs.declared.reading.named_modules.ModuleId.{ModuleId};
 ghost use Rattle.rn_assemble.specs.declared.including.pieces.Piece.{Piece};
-ghost use Rattle.rn_assemble.specs.declared.including.segments.Brought.{Brought};
+ghost use Rattle.rn_assemble.specs.declared.including.segments.FollowedInclude.{FollowedInclude};
 ghost use Rattle.rn_assemble.specs.inside.ContentsOf.{AreApart, HasOrderedIncludes};
 ghost use Rattle.rn_assemble.specs.inside.Pieces.{AreAllPieces, AreLeft, ArePieces, IsKnownRow, IsLeastLacking, OfRow, overrides_in};
 ghost use Rattle.rn_assemble.specs.inside.Runs.{AddsRun, ArePiecesIn, IsEndOfRun, IsLackByPieces, IsOrderedRow, marked, marked_in};
 
-use crate::including::segments::{Brought, Segments};
+use crate::including::segments::{FollowedInclude, Segments};
 use crate::reading::key_rows::WrittenComponent;
+use crate::reading::named_modules::ModuleId;
 use std::alloc::AllocError;
 
 /// The components that a segment has of a key.
@@ -72,8 +74,7 @@ impl Segments<'_, '_, '_> {
         Ok(())
     }
 
-    /// Adds the pieces of the components from an index on that are of one module, with no include between them. Answers
-    /// the index behind them.
+    /// Adds the pieces of a module's components from an index on that no include parts. Answers the index behind them.
     fn push_run(
         &self,
         row: &[WrittenComponent<'_>],
@@ -86,7 +87,7 @@ impl Segments<'_, '_, '_> {
             AddsRun self.now row.now from to pieces.old.items pieces.new.items) }
     {
         let WrittenComponent { module, number, .. } = &row[from];
-        let Some(content) = self.contents.get(*module) else {
+        let Some(content) = self.contents.get(module.0) else {
             return Ok(row.len());
         };
         let segment = content.segment_of(*number);
@@ -105,7 +106,7 @@ impl Segments<'_, '_, '_> {
     /// Whether one of the components is an include's own. Where none is, no include overrides the key.
     fn has_own(&self, row: &[WrittenComponent<'_>]) -> bool
         requires { IsKnownRow row.now self.now }
-        ensures { (b : Brought) → Contains self.now.brought.items b
+        ensures { (b : FollowedInclude) → Contains self.now.brought.items b
             → IsTrue (overrides_in row.now b) → IsTrue result }
     {
         for component in row {
@@ -118,14 +119,15 @@ impl Segments<'_, '_, '_> {
 
     /// Whether the component is an include's own.
     fn is_own(&self, component: &WrittenComponent<'_>) -> bool
-        requires { (c : Contents) → slice_get self.now.contents.now component.now.«module» ≡ Some c
+        requires { (c : Contents)
+            → slice_get self.now.contents.now component.now.«module».0 ≡ Some c
             → HasOrderedIncludes c × AreApart c.includes.items }
         ensures { (c : Contents) (i : Include)
-            → slice_get self.now.contents.now component.now.«module» ≡ Some c
+            → slice_get self.now.contents.now component.now.«module».0 ≡ Some c
             → Contains c.includes.items i → i.from ≤ component.now.number
             → component.now.number < i.to → IsTrue result }
     {
-        match self.contents.get(component.module) {
+        match self.contents.get(component.module.0) {
             Some(content) => content.is_own(component.number),
             None => false,
         }
@@ -136,7 +138,7 @@ impl Segments<'_, '_, '_> {
         requires known { IsKnownRow row.now self.now }
         requires all { AreAllPieces self.now.list.items row.now pieces.old }
         ensures marked { pieces.new ≡ map (marked_in row.now self.now.brought.items) pieces.old }
-        ensures none { result ≡ false → (b : Brought) → Contains self.now.brought.items b
+        ensures none { result ≡ false → (b : FollowedInclude) → Contains self.now.brought.items b
             → overrides_in row.now b ≡ false }
     {
         if !self.has_own(row) {
@@ -153,9 +155,8 @@ impl Segments<'_, '_, '_> {
         has_marked
     }
 
-    /// The least module with an include that overrides the key and brings nothing of it in; `pieces` has all pieces of
-    /// the key.
-    pub fn least_lacking(&self, row: &[WrittenComponent<'_>], pieces: &[Piece]) -> Option<usize>
+    /// The least module with an include that overrides the key and brings nothing of it in, where these are all its pieces.
+    pub fn least_lacking(&self, row: &[WrittenComponent<'_>], pieces: &[Piece]) -> Option<ModuleId>
         requires known { IsKnownRow row.now self.now }
         requires all { AreAllPieces self.now.list.items row.now pieces.now }
         ensures { OfRow row.now self.now (λ modules k cs.
@@ -175,7 +176,7 @@ impl Segments<'_, '_, '_> {
 }
 
 /// Whether the include overrides the key, of which it brought nothing in; `pieces` has all pieces of the key.
-fn lacks(row: &[WrittenComponent<'_>], pieces: &[Piece], brought: &Brought) -> bool
+fn lacks(row: &[WrittenComponent<'_>], pieces: &[Piece], brought: &FollowedInclude) -> bool
     requires row_ordered { IsOrderedRow row.now }
     requires rise { IsStrictlyIncreasing (map (λ (p : Piece). p.segment) pieces.now) }
     requires ordered { brought.now.from ≤ brought.now.to }
@@ -185,9 +186,9 @@ fn lacks(row: &[WrittenComponent<'_>], pieces: &[Piece], brought: &Brought) -> b
     from == to && overrides(row, brought)
 }
 
-/// The lesser of a number and the one that there may be.
-fn lesser(held: Option<usize>, other: usize) -> usize
-    ensures { result ≡ option_map_or (λ (n : ℕ). min n other) held other }
+/// The lesser of a module and the one that there may be.
+fn lesser(held: Option<ModuleId>, other: ModuleId) -> ModuleId
+    ensures { result.0 ≡ option_map_or (λ (m : ModuleId). min m.0 other.0) held other.0 }
 {
     match held {
         Some(held) => held.min(other),
@@ -205,9 +206,9 @@ fn mark(pieces: &mut [Piece])
 }
 
 /// The index behind the components from one on that are of the module and have numbers below `end`.
-fn end_of_run(row: &[WrittenComponent<'_>], from: usize, module: usize, end: usize) -> usize
+fn end_of_run(row: &[WrittenComponent<'_>], from: usize, module: ModuleId, end: usize) -> usize
     requires { from < length row.now }
-    ensures { IsEndOfRun row.now from «module» end result }
+    ensures { IsEndOfRun row.now from «module».0 end result }
 {
     let mut to = from + 1;
     while to < row.len() && row[to].module == module && row[to].number < end {
@@ -217,7 +218,7 @@ fn end_of_run(row: &[WrittenComponent<'_>], from: usize, module: usize, end: usi
 }
 
 /// Whether the include's own components have the key.
-fn overrides(row: &[WrittenComponent<'_>], brought: &Brought) -> bool
+fn overrides(row: &[WrittenComponent<'_>], brought: &FollowedInclude) -> bool
     requires { IsOrderedRow row.now }
     ensures { result ≡ overrides_in row.now brought.now }
 {
@@ -232,7 +233,7 @@ fn overrides(row: &[WrittenComponent<'_>], brought: &Brought) -> bool
 }
 
 /// Where the pieces of the segments that the include brought in begin, and where they end.
-fn pieces_in(pieces: &[Piece], brought: &Brought) -> (usize, usize)
+fn pieces_in(pieces: &[Piece], brought: &FollowedInclude) -> (usize, usize)
     requires rise { IsStrictlyIncreasing (map (λ (p : Piece). p.segment) pieces.now) }
     requires ordered { brought.now.from ≤ brought.now.to }
     ensures { ArePiecesIn pieces.now brought.now result.0 result.1 }

@@ -9,10 +9,11 @@ ghost use Rattle.rn_assemble.specs.inside.ContentsOf.{name_at, written_at};
 ghost use Rattle.rn_assemble.specs.inside.Lacking.{LacksFrom, LacksWithin};
 ghost use Rattle.rn_assemble.specs.inside.Placing.{AddsSegment, IsFirstOf, NotesPlace, PushesAt};
 ghost use Rattle.rn_assemble.specs.inside.Segments.{AreSegments, AreSegmentsOf, HavePlaces, places_at, places_in};
-ghost use Rattle.rn_assemble.specs.inside.Views.{inclusion_view};
+ghost use Rattle.rn_assemble.specs.inside.Views.{inclusion_view, module_numbers};
 
 use crate::including::instances::INSTANCE_LIMIT;
 use crate::reading::contents::{Contents, Include};
+use crate::reading::named_modules::ModuleId;
 use crate::resolving::constants::Constants;
 use crate::resolving::context::Context;
 use std::alloc::{AllocError, Global};
@@ -21,7 +22,7 @@ use std::rc::RcStr;
 /// Components of a module that no include parts, under the namespace that the module inherits.
 #[derive(Clone, Copy)]
 pub(crate) struct Segment<'c, 't> {
-    pub module: usize,
+    pub module: ModuleId,
     pub context: Context<'c, 't>,
     /// The first of the components, as a number among those of the module.
     pub from: usize,
@@ -31,11 +32,13 @@ pub(crate) struct Segment<'c, 't> {
     pub first: usize,
 }
 
-/// What an include brought in: the segments from one place up to another.
+/// An include that was followed, with the segments that it brought in: from one place up to another.
 #[derive(Clone, Copy)]
-pub(crate) struct Brought {
+pub(crate) struct FollowedInclude {
     /// The module whose include it is.
-    pub module: usize,
+    pub module: ModuleId,
+    /// The number of the include among those of its module.
+    pub number: usize,
     /// The first of the include's own components, as a number among those of the module.
     pub own_from: usize,
     /// The number behind the last one.
@@ -50,7 +53,7 @@ pub(crate) struct Segments<'c, 't, 's> {
     pub contents: &'c [Contents<'t, 's>],
     pub list: Vec<Segment<'c, 't>>,
     /// Each include that was followed, behind those in what it brought.
-    pub brought: Vec<Brought>,
+    pub brought: Vec<FollowedInclude>,
     /// Of each module, the places of its first segments, those of its second ones, and so on.
     places: Vec<Vec<Vec<usize>>>,
 }
@@ -61,14 +64,14 @@ impl<'c, 't, 's> Segments<'c, 't, 's> {
         alloc: Global,
         contents: &'c [Contents<'t, 's>],
         constants: &'c Constants,
-        roots: &[usize],
+        roots: &[ModuleId],
     ) -> Result<Segments<'c, 't, 's>, AllocError>
-        ensures segments { OfRoots contents.now roots.now (λ modules. IfOk result (λ x.
-            AreSegmentsOf modules x
-            (flat_map (λ r. specs.components modules (name_at modules r) []) roots.now))) }
-        ensures lacks { OfRoots contents.now roots.now (λ modules. IfOk result (λ x.
-            (y : Text) (k : specs.Key) → IsLackIn modules x.list.items x.brought.items y k
-            ↔ LacksFrom modules roots.now y k)) }
+        ensures segments { OfRoots contents.now (module_numbers roots.now) (λ modules. IfOk result
+            (λ x. AreSegmentsOf modules x (flat_map
+            (λ r. specs.components modules (name_at modules r) []) (module_numbers roots.now)))) }
+        ensures lacks { OfRoots contents.now (module_numbers roots.now) (λ modules. IfOk result
+            (λ x. (y : Text) (k : specs.Key) → IsLackIn modules x.list.items x.brought.items y k
+            ↔ LacksFrom modules (module_numbers roots.now) y k)) }
     {
         let mut segments = Segments::new(alloc, contents)?;
         for root in roots {
@@ -103,20 +106,25 @@ impl<'c, 't, 's> Segments<'c, 't, 's> {
     /// Adds the segments of a module and those that its includes bring in, with includes followed fewer than `depth`
     /// times one inside the other.
     #[cycle(bring)]
-    fn bring(&mut self, module: usize, inherited: &'c RcStr, depth: usize) -> Result<(), AllocError>
+    fn bring(
+        &mut self,
+        module: ModuleId,
+        inherited: &'c RcStr,
+        depth: usize,
+    ) -> Result<(), AllocError>
         ensures { (modules : List specs.NamedModule) → CanBring modules self.old
-            → «module» < length modules → IfOk result (λ _. Brings modules self.old self.new
-            (specs.components_within depth modules (name_at modules «module»)
+            → «module».0 < length modules → IfOk result (λ _. Brings modules self.old self.new
+            (specs.components_within depth modules (name_at modules «module».0)
             (rc_str_bytes inherited.now))
-            (specs.components_within depth modules (name_at modules «module»)
+            (specs.components_within depth modules (name_at modules «module».0)
             (rc_str_bytes inherited.now))
-            (LacksWithin depth modules (name_at modules «module») (rc_str_bytes inherited.now))) }
+            (LacksWithin depth modules (name_at modules «module».0) (rc_str_bytes inherited.now))) }
     {
         if depth == 0 {
             return Ok(());
         }
         let contents = self.contents;
-        let Some(content) = contents.get(module) else {
+        let Some(content) = contents.get(module.0) else {
             return Ok(());
         };
         let context = Context::of(&content.bindings, inherited);
@@ -124,34 +132,34 @@ impl<'c, 't, 's> Segments<'c, 't, 's> {
         let mut from = 0;
         'includes: for include in &content.includes {
             self.add(module, number, context, from, include.from)?;
-            self.bring_included(module, context, include, depth - 1)?;
+            self.bring_included(module, number, context, include, depth - 1)?;
             number += 1;
             from = include.from;
         }
         self.add(module, number, context, from, content.count)
     }
 
-    /// Adds what an include of a module brings in.
+    /// Adds what the include of a module brings in that has that number among those of the module.
     #[cycle(bring)]
     fn bring_included(
         &mut self,
-        module: usize,
+        module: ModuleId,
+        number: usize,
         context: Context<'c, 't>,
         include: &Include<'s>,
         depth: usize,
     ) -> Result<(), AllocError>
         ensures { (modules : List specs.NamedModule) (ds : List Declaration)
-            → CanBring modules self.old
-            → CanInclude modules self.old.contents.now «module» context.entry include.now ds
-            → IfOk result (λ _. Brings modules self.old self.new
+            → CanBring modules self.old → CanInclude modules self.old.contents.now «module».0
+            number context.entry include.now ds → IfOk result (λ _. Brings modules self.old self.new
             (specs.without_overridden (brought_in depth modules
             (rc_str_bytes context.entry.inherited.now) ds (inclusion_view include.now))
-            (own_components modules «module» (rc_str_bytes context.entry.inherited.now) ds
+            (own_components modules «module».0 (rc_str_bytes context.entry.inherited.now) ds
             (inclusion_view include.now)))
             (brought_in depth modules (rc_str_bytes context.entry.inherited.now) ds
             (inclusion_view include.now))
-            (InclusionLacks depth modules (name_at modules «module»)
-            (rc_str_bytes context.entry.inherited.now) ds (written_at modules «module»)
+            (InclusionLacks depth modules (name_at modules «module».0)
+            (rc_str_bytes context.entry.inherited.now) ds (written_at modules «module».0)
             (inclusion_view include.now))) }
     {
         let from = self.list.len();
@@ -159,8 +167,9 @@ impl<'c, 't, 's> Segments<'c, 't, 's> {
             let inherited = context.handed_on(include.inherit);
             self.bring(included, inherited, depth)?;
         }
-        self.brought.push(Brought {
+        self.brought.push(FollowedInclude {
             module,
+            number,
             own_from: include.from,
             own_to: include.to,
             from,
@@ -172,7 +181,7 @@ impl<'c, 't, 's> Segments<'c, 't, 's> {
     /// Adds the segment of a module that has that number among those of the module.
     fn add(
         &mut self,
-        module: usize,
+        module: ModuleId,
         number: usize,
         context: Context<'c, 't>,
         from: usize,
@@ -181,9 +190,9 @@ impl<'c, 't, 's> Segments<'c, 't, 's> {
         ensures contents { self.new.contents ≡ self.old.contents }
         ensures brought { self.new.brought ≡ self.old.brought }
         ensures added { (modules : List specs.NamedModule) → AreSegments modules self.old
-            → CanAdd modules self.old «module» number context.entry from to
-            → IfOk result (λ _. AddsSegment modules self.old self.new «module» context.entry
-            from to) }
+            → CanAdd modules self.old «module».0 number context.entry from to
+            → IfOk result (λ _. AddsSegment modules self.old self.new «module».0
+            context.entry from to) }
     {
         let place = self.list.len();
         let first = self
@@ -200,8 +209,8 @@ impl<'c, 't, 's> Segments<'c, 't, 's> {
     }
 
     /// The `first` of the segments of that module and number under the namespace, if there are any.
-    fn first_like(&self, module: usize, number: usize, inherited: &RcStr) -> Option<usize>
-        ensures { IfSome result (λ first. IsFirstOf self.now «module» number
+    fn first_like(&self, module: ModuleId, number: usize, inherited: &RcStr) -> Option<usize>
+        ensures { IfSome result (λ first. IsFirstOf self.now «module».0 number
             (rc_str_bytes inherited.now) first) }
     {
         for place in self.places_of(module, number) {
@@ -216,24 +225,29 @@ impl<'c, 't, 's> Segments<'c, 't, 's> {
     }
 
     /// Notes that the segment at the place has that number among those of the module.
-    fn note_place(&mut self, module: usize, number: usize, place: usize) -> Result<(), AllocError>
+    fn note_place(
+        &mut self,
+        module: ModuleId,
+        number: usize,
+        place: usize,
+    ) -> Result<(), AllocError>
         ensures contents { self.new.contents ≡ self.old.contents }
         ensures list { self.new.list ≡ self.old.list }
         ensures brought { self.new.brought ≡ self.old.brought }
         ensures noted { IfOk result (λ _. NotesPlace self.old.places.items self.new.places.items
-            «module» number place) }
+            «module».0 number place) }
     {
-        if module < self.places.len() {
-            push_at(&mut self.places[module], number, place)?;
+        if module.0 < self.places.len() {
+            push_at(&mut self.places[module.0], number, place)?;
         }
         Ok(())
     }
 
     /// The places of the segments of a module that have that number among those of the module.
-    pub fn places_of(&self, module: usize, number: usize) -> &[usize]
-        ensures { result.now ≡ places_at self.now.places.items «module» number }
+    pub fn places_of(&self, module: ModuleId, number: usize) -> &[usize]
+        ensures { result.now ≡ places_at self.now.places.items «module».0 number }
     {
-        match self.places.get(module) {
+        match self.places.get(module.0) {
             Some(numbers) => match numbers.get(number) {
                 Some(places) => places,
                 None => &[],

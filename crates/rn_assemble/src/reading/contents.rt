@@ -10,22 +10,21 @@ ghost use Rattle.rn_assemble.specs.inside.Contained.{item_inclusions, inclusions
 ghost use Rattle.rn_assemble.specs.inside.ContentsOf.{AreApart, AreContents, HasOrderedIncludes, IsContents, IsSegmentOf, segment_end};
 ghost use Rattle.rn_assemble.specs.inside.Keyed.{AreAmong, AreNames, defines, item_defines, key_at};
 ghost use Rattle.rn_assemble.specs.inside.Rows.{AddsRows, AreRows, placed_from};
-ghost use Rattle.rn_assemble.specs.inside.Views.{AreInOrder, AreNamed, AddsIncludes, module_with, names_of, with_items};
+ghost use Rattle.rn_assemble.specs.inside.Views.{AddsIncludes, AreInOrder, AreNamed, module_number, module_with, names_of, with_items};
 
 use crate::including::inclusion::module_named;
 use crate::reading::key_rows::{KeyRows, WrittenComponent};
-use crate::reading::keys::{Keys, START};
-use crate::reading::named_modules::NamedModule;
+use crate::reading::keys::{KeyId, Keys, START};
+use crate::reading::named_modules::{ModuleId, NamedModule};
 use crate::resolving::constants::Constants;
 use crate::resolving::declared_uris::DeclaredUris;
 use rn_syntax::{Item, Method, Pat, Prefix};
 use std::alloc::{AllocError, Global};
 
-/// An include: the number of the module that it names, if there is one, and its own components as numbers among those
-/// of the including module.
+/// An include: the module that it names, if there is one, and its own components as numbers among those of its module.
 #[derive(Clone, Copy)]
 pub(crate) struct Include<'s> {
-    pub module: Option<usize>,
+    pub module: Option<ModuleId>,
     pub inherit: Option<Prefix<'s>>,
     pub from: usize,
     pub to: usize,
@@ -40,25 +39,24 @@ pub(crate) struct Contents<'t, 's> {
 }
 
 impl Contents<'_, '_> {
-    /// How many includes come before the component of that number. So it is the number of the segment that has the
-    /// component.
-    pub fn segment_of(&self, component: usize) -> usize
+    /// How many includes come before the component of that number. So it is the number of the component's segment.
+    pub fn segment_of(&self, number: usize) -> usize
         requires { HasOrderedIncludes self.now }
-        ensures { IsSegmentOf self.now component result }
+        ensures { IsSegmentOf self.now number result }
     {
         self.includes
-            .partition_point(|include: &Include<'_>| include.from <= component)
+            .partition_point(|include: &Include<'_>| include.from <= number)
     }
 
     /// Whether the component of that number is one of an include's own.
-    pub fn is_own(&self, component: usize) -> bool
+    pub fn is_own(&self, number: usize) -> bool
         requires ordered { HasOrderedIncludes self.now }
         requires apart { AreApart self.now.includes.items }
         ensures { (i : code_include.Include) → Contains self.now.includes.items i
-            → i.from ≤ component → component < i.to → result ≡ true }
+            → i.from ≤ number → number < i.to → result ≡ true }
     {
-        match self.segment_of(component).checked_sub(1) {
-            Some(include) => component < self.includes[include].to,
+        match self.segment_of(number).checked_sub(1) {
+            Some(include) => number < self.includes[include].to,
             None => false,
         }
     }
@@ -96,54 +94,54 @@ pub(crate) fn contents_of<'t, 's>(
     let mut all = Vec::with_capacity(alloc, modules.len())?;
     let mut rows = KeyRows::new(alloc, keys.len())?;
     for items in items {
-        let number = all.len();
+        let module = ModuleId(all.len());
         let contents = contents_of_module(
-            alloc, modules, keys, constants, number, items, &mut rows,
+            alloc, modules, keys, constants, module, items, &mut rows,
         )?;
         all.push(contents)?;
     }
     Ok((all, rows))
 }
 
-/// The contents of the module of that number, which has these items. Its components are added to the rows of their keys.
+/// The contents of the module, which has these items. Its components are added to the rows of their keys.
 fn contents_of_module<'t, 's>(
     alloc: Global,
     modules: &'t [NamedModule<'s>],
     keys: &Keys<'s>,
     constants: &Constants,
-    number: usize,
+    module: ModuleId,
     items: Vec<Item<'s>>,
     rows: &mut KeyRows<'s>,
 ) -> Result<Contents<'t, 's>, AllocError>
-    requires within { number < length modules.now }
+    requires within { «module».0 < length modules.now }
     requires keys_in_order { IsStrictlySortedBy text_cmp (names_of keys.now) }
     requires defined { AreAmong (names_of keys.now) (defines (items_view items.items)) }
     requires modules_in_order { AreInOrder modules.now }
     requires size { length rows.old.rows.items ≡ length (names_of keys.now) + 1 }
     ensures rows { IfOk result (λ _. AddsRows (names_of keys.now) rows.old.rows.items
-        rows.new.rows.items (placed_from number 0
+        rows.new.rows.items (placed_from «module».0 0
         (written_components (items_view items.entry.items)))) }
     ensures exact { (ms : List components.NamedModule) (m : code_module.NamedModule)
-        → AreNamed ms modules.now → slice_get modules.now number ≡ Some m
+        → AreNamed ms modules.now → slice_get modules.now «module».0 ≡ Some m
         → IfOk result (IsContents ms (module_with m items.entry)) }
 {
     let mut contents = Contents {
-        bindings: DeclaredUris::new(alloc, modules[number].tree.decls.as_slice(), constants)?,
+        bindings: DeclaredUris::new(alloc, modules[module.0].tree.decls.as_slice(), constants)?,
         count: 0,
         includes: Vec::new(alloc),
     };
-    gather(&mut contents, rows, modules, keys, number, items)?;
+    gather(&mut contents, rows, modules, keys, module, items)?;
     Ok(contents)
 }
 
-/// Adds what the items of the module of that number consist of.
+/// Adds what the items of the module consist of.
 #[cycle(gather)]
 fn gather<'t, 's>(
     contents: &mut Contents<'t, 's>,
     rows: &mut KeyRows<'s>,
     modules: &[NamedModule<'s>],
     keys: &Keys<'s>,
-    number: usize,
+    module: ModuleId,
     items: Vec<Item<'s>>,
 ) -> Result<(), AllocError>
     requires keys_in_order { IsStrictlySortedBy text_cmp (names_of keys.now) }
@@ -153,7 +151,7 @@ fn gather<'t, 's>(
     ensures kept { length rows.new.rows.items ≡ length rows.old.rows.items }
     ensures rows { AreAmong (names_of keys.now) (defines (items_view items.entry.items))
         → IfOk result (λ _. AddsRows (names_of keys.now) rows.old.rows.items rows.new.rows.items
-        (placed_from number contents.old.count
+        (placed_from «module».0 contents.old.count
         (written_components (items_view items.entry.items)))) }
     ensures count { IfOk result (λ _. contents.new.count ≡ contents.old.count
         + length (written_components (items_view items.entry.items))) }
@@ -162,19 +160,19 @@ fn gather<'t, 's>(
         (inclusions ms contents.old.count (items_view items.entry.items))) }
 {
     'items: for item in items {
-        gather_item(contents, rows, modules, keys, number, item)?;
+        gather_item(contents, rows, modules, keys, module, item)?;
     }
     Ok(())
 }
 
-/// Adds what the item of the module of that number consists of.
+/// Adds what the item of the module consists of.
 #[cycle(gather)]
 fn gather_item<'t, 's>(
     contents: &mut Contents<'t, 's>,
     rows: &mut KeyRows<'s>,
     modules: &[NamedModule<'s>],
     keys: &Keys<'s>,
-    number: usize,
+    module: ModuleId,
     item: Item<'s>,
 ) -> Result<(), AllocError>
     requires keys_in_order { IsStrictlySortedBy text_cmp (names_of keys.now) }
@@ -184,7 +182,8 @@ fn gather_item<'t, 's>(
     ensures kept { length rows.new.rows.items ≡ length rows.old.rows.items }
     ensures rows { AreAmong (names_of keys.now) (item_defines (item_view item.entry))
         → IfOk result (λ _. AddsRows (names_of keys.now) rows.old.rows.items rows.new.rows.items
-        (placed_from number contents.old.count (item_written_components (item_view item.entry)))) }
+        (placed_from «module».0 contents.old.count
+        (item_written_components (item_view item.entry)))) }
     ensures count { IfOk result (λ _. contents.new.count ≡ contents.old.count
         + length (item_written_components (item_view item.entry))) }
     ensures includes { (ms : List components.NamedModule) → AreNamed ms modules.now
@@ -194,12 +193,12 @@ fn gather_item<'t, 's>(
     match item {
         Item::Define { name, method, body } => {
             let key = keys.number(name);
-            push_component(contents, rows, keys, number, key, method, body)
+            push_component(contents, rows, keys, module, key, method, body)
         }
         Item::Start { method, body } => {
-            push_component(contents, rows, keys, number, START, method, body)
+            push_component(contents, rows, keys, module, START, method, body)
         }
-        Item::Div(items) => gather(contents, rows, modules, keys, number, items),
+        Item::Div(items) => gather(contents, rows, modules, keys, module, items),
         Item::Include(include) => {
             let rn_syntax::Include {
                 wanted,
@@ -207,32 +206,32 @@ fn gather_item<'t, 's>(
                 items,
             } = Box::into_inner(include);
             let from = contents.count;
-            gather(contents, rows, modules, keys, number, items)?;
-            let module = module_named(modules, &wanted);
-            push_include(contents, module, inherit, from)
+            gather(contents, rows, modules, keys, module, items)?;
+            let included = module_named(modules, &wanted);
+            push_include(contents, included, inherit, from)
         }
     }
 }
 
-/// Adds a component of the module of that number.
+/// Adds a component of the module.
 #[inline(always)]
 fn push_component<'t, 's>(
     contents: &mut Contents<'t, 's>,
     rows: &mut KeyRows<'s>,
     keys: &Keys<'s>,
-    module: usize,
-    key: usize,
+    module: ModuleId,
+    key: KeyId,
     method: Method,
     body: Box<Pat<'s>>,
 ) -> Result<(), AllocError>
     requires size { length rows.old.rows.items ≡ length (names_of keys.now) + 1 }
     ensures bindings { contents.new.bindings ≡ contents.old.bindings }
     ensures kept { length rows.new.rows.items ≡ length rows.old.rows.items }
-    ensures rows { key < length (names_of keys.now) + 1
+    ensures rows { key.0 < length (names_of keys.now) + 1
         → IsStrictlySortedBy text_cmp (names_of keys.now)
         → IfOk result (λ _. AddsRows (names_of keys.now) rows.old.rows.items rows.new.rows.items
-        (placed_from «module» contents.old.count (record {
-          key = key_at (names_of keys.now) key;
+        (placed_from «module».0 contents.old.count (record {
+          key = key_at (names_of keys.now) key.0;
           method = method;
           pattern = boxed_view body.entry;
         } ∷ []))) }
@@ -259,7 +258,7 @@ fn push_component<'t, 's>(
 /// Adds an include, whose own components are those from a number on.
 fn push_include<'t, 's>(
     contents: &mut Contents<'t, 's>,
-    module: Option<usize>,
+    module: Option<ModuleId>,
     inherit: Option<Prefix<'s>>,
     from: usize,
 ) -> Result<(), AllocError>
@@ -267,7 +266,7 @@ fn push_include<'t, 's>(
     ensures count { contents.new.count ≡ contents.old.count }
     ensures includes { IfOk result (λ _. AddsIncludes contents.old contents.new
         (record {
-          module_at = «module»;
+          module_at = module_number «module»;
           inherit = prefix_view inherit.entry;
           first = from;
           end = contents.old.count;

@@ -2,14 +2,15 @@
 ghost use Rattle.std.specs.Prelude.{◌≡◌, ◌<◌, ◌∷◌, ◌++◌, [], ℕ, IfOk, length};
 ghost use Rattle.rn_assemble.specs.inside.Rows.{KeepsRowsBut, row_at};
 
+use crate::reading::keys::KeyId;
+use crate::reading::named_modules::ModuleId;
 use rn_syntax::{Method, Pat};
 use std::alloc::{AllocError, Global};
 
 /// A define or a start of a module.
 #[derive(Drop)]
 pub(crate) struct WrittenComponent<'s> {
-    /// The number of the module.
-    pub module: usize,
+    pub module: ModuleId,
     /// The number of the component among those of the module, in the order of the text.
     pub number: usize,
     pub method: Method,
@@ -24,12 +25,12 @@ pub(crate) struct KeyRows<'s> {
 
 impl<'s> KeyRows<'s> {
     /// No components of so many keys.
-    pub fn new(alloc: Global, keys: usize) -> Result<KeyRows<'s>, AllocError>
-        ensures size { IfOk result (λ r. length r.rows.items ≡ keys) }
+    pub fn new(alloc: Global, count: usize) -> Result<KeyRows<'s>, AllocError>
+        ensures size { IfOk result (λ r. length r.rows.items ≡ count) }
         ensures empty { (n : ℕ) → IfOk result (λ r. row_at r.rows.items n ≡ []) }
     {
-        let mut rows = Vec::with_capacity(alloc, keys)?;
-        for _ in 0..keys {
+        let mut rows = Vec::with_capacity(alloc, count)?;
+        for _ in 0..count {
             rows.push(Vec::new(alloc))?;
         }
         Ok(KeyRows { rows })
@@ -43,15 +44,15 @@ impl<'s> KeyRows<'s> {
     }
 
     /// Adds a component of a key behind those that the key has. The first takes memory for itself alone.
-    pub fn push(&mut self, key: usize, component: WrittenComponent<'s>) -> Result<(), AllocError>
+    pub fn push(&mut self, key: KeyId, component: WrittenComponent<'s>) -> Result<(), AllocError>
         ensures size { length self.new.rows.items ≡ length self.old.rows.items }
-        ensures others { KeepsRowsBut key self.old.rows.items self.new.rows.items }
-        ensures pushed { key < length self.old.rows.items → IfOk result (λ _.
-            row_at self.new.rows.items key
-            ≡ row_at self.old.rows.items key ++ component.entry ∷ []) }
+        ensures others { KeepsRowsBut key.0 self.old.rows.items self.new.rows.items }
+        ensures pushed { key.0 < length self.old.rows.items → IfOk result (λ _.
+            row_at self.new.rows.items key.0
+            ≡ row_at self.old.rows.items key.0 ++ component.entry ∷ []) }
     {
-        if key < self.rows.len() {
-            let row = &mut self.rows[key];
+        if key.0 < self.rows.len() {
+            let row = &mut self.rows[key.0];
             if row.is_empty() {
                 row.reserve_exact(1)?;
             }
@@ -62,22 +63,22 @@ impl<'s> KeyRows<'s> {
 
     /// The components of a key.
     #[inline(always)]
-    pub fn row(&self, key: usize) -> &[WrittenComponent<'s>]
-        ensures { result.now ≡ row_at self.now.rows.items key }
+    pub fn row(&self, key: KeyId) -> &[WrittenComponent<'s>]
+        ensures { result.now ≡ row_at self.now.rows.items key.0 }
     {
-        if key < self.rows.len() {
-            self.rows[key].as_slice()
+        if key.0 < self.rows.len() {
+            self.rows[key.0].as_slice()
         } else {
             &[]
         }
     }
 
     /// Takes the components of a key out, so that they are dropped once they are used.
-    pub fn take(&mut self, alloc: Global, key: usize) -> Vec<WrittenComponent<'s>>
-        ensures taken { result.items ≡ row_at self.old.rows.items key }
-        ensures others { KeepsRowsBut key self.old.rows.items self.new.rows.items }
+    pub fn take(&mut self, alloc: Global, key: KeyId) -> Vec<WrittenComponent<'s>>
+        ensures taken { result.items ≡ row_at self.old.rows.items key.0 }
+        ensures others { KeepsRowsBut key.0 self.old.rows.items self.new.rows.items }
     {
-        match self.rows.get_mut(key) {
+        match self.rows.get_mut(key.0) {
             Some(row) => std::mem::replace(row, Vec::new(alloc)),
             None => Vec::new(alloc),
         }

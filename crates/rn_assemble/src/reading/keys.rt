@@ -15,8 +15,12 @@ use rn_pattern::Seed;
 use rn_syntax::Item;
 use std::alloc::{AllocError, Global};
 
-/// The number of start, which comes before all names.
-pub(crate) const START: usize = 0;
+/// The number of a key: start, and then the names in the order of their bytes.
+#[derive(Clone, Copy, Debug, PartialEq, Eq, PartialOrd, Ord)]
+pub(crate) struct KeyId(pub(crate) usize);
+
+/// Start, which comes before all names.
+pub(crate) const START: KeyId = KeyId(0);
 
 /// The keys of the components of all modules. Start is number 0, and the names follow in the order of their bytes.
 #[derive(Drop)]
@@ -54,45 +58,45 @@ impl<'s> Keys<'s> {
     }
 
     /// The number of a name that a module defines; of any other name, that of start.
-    pub fn number(&self, name: &str) -> usize
+    pub fn number(&self, name: &str) -> KeyId
         ensures { Contains (names_of self.now) name.now
-            → IsNameNumber (names_of self.now) name.now result }
+            → IsNameNumber (names_of self.now) name.now result.0 }
     {
         self.find(name).unwrap_or(START)
     }
 
     /// The number of a name, if a module defines it.
-    pub fn find(&self, name: &str) -> Option<usize>
-        ensures within { IfSome result (λ key. (0 < key)
-            × (key < length (names_of self.now) + 1)) }
+    pub fn find(&self, name: &str) -> Option<KeyId>
+        ensures within { IfSome result (λ key. (0 < key.0)
+            × (key.0 < length (names_of self.now) + 1)) }
         ensures found { IsFound (names_of self.now) name.now result }
     {
         match self.names.get_index_of(&name) {
             Some(at) => {
                 prove!(at < self.names.len());
-                Some(at + 1)
+                Some(KeyId(at + 1))
             }
             None => None,
         }
     }
 
     /// The name of that number.
-    pub fn name(&self, number: usize) -> &'s str
-        ensures { 0 < number → number < length (names_of self.now) + 1
-            → result.now ≡ slice_index_or (names_of self.now) (number - 1) [] }
+    pub fn name(&self, id: KeyId) -> &'s str
+        ensures { 0 < id.0 → id.0 < length (names_of self.now) + 1
+            → result.now ≡ slice_index_or (names_of self.now) (id.0 - 1) [] }
     {
-        name_of(self.names.as_slice(), number)
+        name_of(self.names.as_slice(), id)
     }
 
     /// The key of that number.
-    pub fn key(&self, alloc: Global, number: usize) -> Result<Key, AllocError>
-        ensures { number < length (names_of self.now) + 1
-            → IfOk result (λ key. key_view key ≡ key_at (names_of self.now) number) }
+    pub fn key(&self, alloc: Global, id: KeyId) -> Result<Key, AllocError>
+        ensures { id.0 < length (names_of self.now) + 1
+            → IfOk result (λ key. key_view key ≡ key_at (names_of self.now) id.0) }
     {
-        if number == START {
+        if id == START {
             return Ok(Key::Start);
         }
-        Ok(Key::Define(String::from_str(alloc, self.name(number))?))
+        Ok(Key::Define(String::from_str(alloc, self.name(id))?))
     }
 }
 
@@ -153,10 +157,10 @@ fn indexed<'s>(
 }
 
 /// The name of that number; none of start.
-fn name_of<'s>(names: &[&'s str], number: usize) -> &'s str
-    ensures { result.now ≡ name_at (texts_of names.now) number }
+fn name_of<'s>(names: &[&'s str], id: KeyId) -> &'s str
+    ensures { result.now ≡ name_at (texts_of names.now) id.0 }
 {
-    match number.checked_sub(1) {
+    match id.0.checked_sub(1) {
         Some(at) if at < names.len() => names[at],
         _ => "",
     }

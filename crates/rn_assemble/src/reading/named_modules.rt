@@ -18,6 +18,10 @@ use rn_syntax::{Item, Module, SyntaxFault, parse};
 use rn_text::{TextFault, Token, read_tokens};
 use std::alloc::{AllocError, Global};
 
+/// The number of a module among those of a set, in the order of their names.
+#[derive(Clone, Copy, Debug, PartialEq, Eq, PartialOrd, Ord)]
+pub(crate) struct ModuleId(pub(crate) usize);
+
 /// An effective module: its name and its tree.
 #[derive(Drop)]
 pub(crate) struct NamedModule<'a> {
@@ -26,8 +30,7 @@ pub(crate) struct NamedModule<'a> {
 }
 
 /// The effective modules, in the order of their names. Or the first refusal of the set, where that is a conflict or the
-/// first fault of a text: the fault of the least name whose module has one. One module's tokens take the memory of those
-/// before.
+/// first fault of a text: the fault of the least name whose module has one. Tokens take the memory of those before.
 pub(crate) fn read_modules<'a>(
     alloc: Global,
     set: &'a ModuleSet,

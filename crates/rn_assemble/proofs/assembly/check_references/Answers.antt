@@ -13,7 +13,7 @@ returns c = λ modules cs o rows segments d.
     let names = names_of c.args.keys.now in
     let found = c.in_ok-references.ensures.found modules cs o rows segments d in
     let least = subst (λ k. IsKeyOrder names cs k) c.in-Recursive.is (c.in_ok-order.ensures names cs o found) in
-    let name : c.name.result.now ≡ least.0 = c.name.ensures least.1.above (omega (arith, least.1.within)) ∙ name_there names least.0 c.in-Recursive.key least.1 in
+    let name : c.name.result.now ≡ least.0 = c.name.ensures least.1.above (omega (arith, least.1.within)) ∙ name_there names least.0 c.in-Recursive.key.0 least.1 in
     (subst (λ (x : Text). IsLeast text_cmp (IsRecursive (joined_grammar cs)) x) (sym (c.in_ok-from_str-in-Recursive.ensures.ok ∙ name)) least.2, found.defined)
 
 pub returns-in-Ordered : goal.returns-in-Ordered

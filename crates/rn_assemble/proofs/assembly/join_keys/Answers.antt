@@ -1,12 +1,13 @@
-use Rattle.std.proofs.Common.{◌≡◌, List, ℕ, sym, subst}
+use Rattle.std.proofs.Common.{◌≡◌, List, sym, subst}
 use Rattle.std.proofs.lemmas.Result.{err_from_is_err_and}
 use Rattle.rn_text.specs.Texts.{Text}
 use Rattle.rn_assemble.specs.Components.{Key, NamedModule, set_components}
 use Rattle.rn_assemble.specs.Refusal.{Lacks}
 use Rattle.rn_assemble.specs.inside.Checked.{AreExpanded}
 use Rattle.rn_assemble.specs.inside.Methods.{CanCombine}
+use Rattle.rn_assemble.specs.declared.reading.keys.KeyId.{KeyId}
 use Rattle.rn_assemble.specs.inside.ReferenceOrder.{AreDefinedKeys, IsReferenceOrder}
-use Rattle.rn_assemble.specs.inside.Views.{AreNamed, names_of}
+use Rattle.rn_assemble.specs.inside.Views.{AreNamed, key_numbers, names_of}
 use Rattle.rn_assemble.proofs.Answering.FirstRefusal.{lacking_first, uncombined_first, unsound_first}
 use Rattle.rn_assemble.proofs.Answering.CheckedModules.{brought_within, can_be_joined, joined_or_first, passed_includes, passed_methods, passed_overrides}
 use Rattle.rn_assemble.proofs.assembly.join_keys.Goals as goal
@@ -36,13 +37,13 @@ returns-in_err-check_methods c = λ ms named h.
 record AreChecked (c : In_ok-defined) (ms : List NamedModule) : Type 0 where
   never : (y : Text) (k : Key) → ¬ Lacks ms y k
   can : CanCombine (set_components ms)
-  defined : (keys : List ℕ) → keys ≡ c.in_ok-defined.defined.items → AreDefinedKeys (names_of c.args.keys.now) (set_components ms) keys
+  defined : (keys : List KeyId) → keys ≡ c.in_ok-defined.defined.items → AreDefinedKeys (names_of c.args.keys.now) (set_components ms) (key_numbers keys)
 
 checked : (c : In_ok-defined) (ms : List NamedModule) → AreNamed ms c.args.modules.now → AreExpanded ms (names_of c.args.keys.now) c.args.rows c.args.segments.now → AreChecked c ms
 checked c ms named h = record {
   never = c.in_ok-check_overrides.ensures ms (set_components ms) named h.in_order h.rows_are h.segments_are h.lacks;
   can = c.in_ok-check_methods.ensures ms (set_components ms) h.in_order h.rows_are h.segments_are;
-  defined = λ keys e. subst (AreDefinedKeys (names_of c.args.keys.now) (set_components ms)) (sym e) (c.in_ok-defined.ensures ms (names_of c.args.keys.now) (set_components ms) h.in_order h.rows_are h.segments_are);
+  defined = λ keys e. subst (λ (ks : List KeyId). AreDefinedKeys (names_of c.args.keys.now) (set_components ms) (key_numbers ks)) (sym e) (c.in_ok-defined.ensures ms (names_of c.args.keys.now) (set_components ms) h.in_order h.rows_are h.segments_are);
 }
 
 pub returns-in_err-reached : goal.returns-in_err-reached
@@ -62,9 +63,9 @@ joined_grammar-requires c =
     let cs = set_components ms in
     let found = checked here ms named h in
     let sound = c.in_ok-reached.ensures ms cs h.in_order h.rows_are h.segments_are (found.defined c.deref.result.now c.deref.ensures.value) in
-    let reached = subst (IsReferenceOrder names cs) (sym c.deref-3.ensures.value) sound.1 in
+    let reached = subst (λ (ks : List KeyId). IsReferenceOrder names cs (key_numbers ks)) (sym c.deref-3.ensures.value) sound.1 in
     let order = c.in_ok-order.ensures cs h.in_order (found.defined c.deref-2.result.now c.deref-2.ensures.value) reached in
-    (ms, cs, h.in_order, h.rows_are, h.segments_are, can_be_joined ms names c.args.rows c.args.segments.now h found.never found.can sound.0 kept c.deref-4.result.now c.in_ok-order.order.items (found.defined c.deref-4.result.now c.deref-4.ensures.value) order)
+    (ms, cs, h.in_order, h.rows_are, h.segments_are, can_be_joined ms names c.args.rows c.args.segments.now h found.never found.can sound.0 kept (key_numbers c.deref-4.result.now) c.in_ok-order.order.items (found.defined c.deref-4.result.now c.deref-4.ensures.value) order)
 
 pub returns : goal.returns
 returns c = λ ms named h.

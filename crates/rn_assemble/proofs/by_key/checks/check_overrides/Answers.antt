@@ -6,7 +6,7 @@ use Rattle.rn_text.specs.Texts.{Text, text_cmp}
 use Rattle.rn_assemble.specs.Refusal.{Lacks}
 use Rattle.rn_assemble.specs.Refused.{key_view}
 use Rattle.rn_assemble.specs.declared.by_key.checks.Lack.{Lack}
-use Rattle.rn_assemble.specs.declared.including.segments.Brought.{Brought}
+use Rattle.rn_assemble.specs.declared.including.segments.FollowedInclude.{FollowedInclude}
 use Rattle.rn_assemble.specs.inside.Bringing.{IsLackIn}
 use Rattle.rn_assemble.specs.inside.Lacking.{IsLeastLack}
 use Rattle.rn_assemble.specs.inside.Views.{names_of}
@@ -14,12 +14,12 @@ use Rattle.rn_assemble.proofs.KeyFaults.OverrideStands.{lack_alike, name_named_a
 use Rattle.rn_assemble.proofs.by_key.checks.check_overrides.Goals as goal
 
 -- the module of a lack is there
-within : (c : goal.In-Some) → c.in-Some.lack.«module» < length c.args.modules.now
+within : (c : goal.In-Some) → c.in-Some.lack.«module».0 < length c.args.modules.now
 within c =
     let (ms, named, there) = c.requires.named in
     let rows = c.args.rows.now.rows.items in
     let brought = c.args.segments.now.brought.items in
-    let is = subst (λ (o : Option Lack). IfSome o (λ (l : Lack). (l.key < length rows) × ((b : Brought) × Contains brought b × (b.«module» ≡ l.«module»)))) c.in-Some.is c.in_ok-least_lack.ensures.within in
+    let is = subst (λ (o : Option Lack). IfSome o (λ (l : Lack). (l.key.0 < length rows) × ((b : FollowedInclude) × Contains brought b × (b.«module».0 ≡ l.«module».0)))) c.in-Some.is c.in_ok-least_lack.ensures.within in
     omega (arith, there is.1.0 is.1.1, is.1.2, same_length ms c.args.modules.now named)
 
 pub offset_bounds-modules-lack : goal.offset_bounds-modules-lack
@@ -49,7 +49,7 @@ returns-in_ok-key-in-Some c = λ ms cs named o rows segments lacks.
     let mo = subst (λ (ns : List Text). IsStrictlySortedBy text_cmp ns) (sym named) c.requires.in_order in
     let least = subst (λ (m : Option Lack). IsLeastLack ms names P m) c.in-Some.is (c.in_ok-least_lack.ensures.least ms names cs mo o rows segments) in
     let h = lack_alike ms names P (Lacks ms) lacks (Some l) least in
-    let within : l.«module» < length c.args.modules.now = omega (arith, h.0, same_length ms c.args.modules.now named) in
+    let within : l.«module».0 < length c.args.modules.now = omega (arith, h.0, same_length ms c.args.modules.now named) in
     override_stands ms names l (string_bytes c.in_ok-from_str-in-Some.field-0) (key_view c.in_ok-key-in-Some.field-0) h
-    (c.in_ok-from_str-in-Some.ensures.ok ∙ name_named_at ms c.args.modules.now named l.«module» c.index-modules-lack.result within)
+    (c.in_ok-from_str-in-Some.ensures.ok ∙ name_named_at ms c.args.modules.now named l.«module».0 c.index-modules-lack.result within)
     (c.in_ok-key-in-Some.ensures (omega (arith, h.1)))

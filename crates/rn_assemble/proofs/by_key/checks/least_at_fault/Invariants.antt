@@ -7,7 +7,7 @@ use Rattle.rn_assemble.specs.inside.Rows.{AreRows}
 use Rattle.rn_assemble.specs.inside.Segments.{AreSegmentsOf}
 use Rattle.rn_assemble.proofs.by_key.checks.least_at_fault.Given as goal
 
-abbrev pub invariant-loop-key : goal.invariant-loop-key
-invariant-loop-key l = record {
-  none : (modules : List NamedModule) (names : List Text) (cs : List Component) → AreRows modules names l.rows.rows.items → AreSegmentsOf modules l.segments cs → (n : ℕ) → n < l.key → ¬ HasFault l.fault cs (key_at names n);
+abbrev pub invariant-loop-number : goal.invariant-loop-number
+invariant-loop-number l = record {
+  none : (modules : List NamedModule) (names : List Text) (cs : List Component) → AreRows modules names l.rows.rows.items → AreSegmentsOf modules l.segments cs → (n : ℕ) → n < l.number → ¬ HasFault l.fault cs (key_at names n);
 }

@@ -7,7 +7,7 @@ use Rattle.std.proofs.lemmas.Result.{IfOk-weaker}
 use Rattle.rn_syntax.specs.View.{boxed_view}
 use Rattle.rn_pattern.specs.Tree.{interleave, choice, trees_of}
 use Rattle.rn_pattern.specs.View.{pattern_view, shared_trees}
-use Rattle.rn_assemble.specs.Combine.{bodies, method_node, uses}
+use Rattle.rn_assemble.specs.Combine.{bodies, method_node}
 use Rattle.rn_assemble.specs.Resolve.{resolved_pattern}
 use Rattle.rn_assemble.specs.declared.reading.key_rows.WrittenComponent as code
 use Rattle.rn_assemble.specs.declared.including.pieces.Piece.{Piece}
@@ -60,7 +60,7 @@ returns-in-Some c = λ modules k cs r h.
     let is = only_piece list row all p pieces.each only in
     let at : slice_get list p.segment ≡ Some s = slice_get_read list (length list) p.segment s refl is.segment_within c.index.ensures in
     let inherited = rc_str_bytes s.context.inherited.now in
-    let ds = declarations_at modules s.module in
+    let ds = declarations_at modules s.module.0 in
     let one = bodies_are modules list row k cs all pieces ∙ ap (all_bodies modules list row) only ∙ one_body modules list row p s w at c.index-row-piece.is (omega (arith, is.ordered, is.within)) c.in-Some.ensures.1 in
     IfOk-weaker c.join_one.result _ _
     (λ o found. one_joined cs k (resolved_pattern inherited ds (boxed_view w.body)) o one found)

@@ -13,7 +13,7 @@ use Rattle.rn_assemble.specs.inside.Joining.{IsJoinedGrammar, IsMisnamed}
 use Rattle.rn_assemble.specs.inside.Patterns.{IsJoined}
 use Rattle.rn_assemble.specs.inside.Rows.{IsRowOf}
 use Rattle.rn_assemble.specs.inside.Tied.{AreTied}
-use Rattle.rn_assemble.specs.inside.Views.{names_of}
+use Rattle.rn_assemble.specs.inside.Views.{key_numbers, names_of}
 use Rattle.rn_assemble.proofs.Answering.RefusedResults.{refused_at}
 use Rattle.rn_assemble.proofs.Joining.KeyedDefinitions.{least_broken, name_rows}
 use Rattle.rn_assemble.proofs.by_key.combining.joined_grammar.Goals as goal
@@ -22,7 +22,7 @@ pub returns-in_default : goal.returns-in_default
 returns-in_default c = λ ms cs o r h d t.
     let row = subst (IsRowOf ms start_key) (sym (c.as_slice.ensures.value ∙ c.take-row.ensures.taken)) (r.each 0 (omega (arith, r.size))) in
     let breaks = subst (IsJoined cs start_key) c.in_default.is (c.in_ok-start.ensures ms start_key cs row h) in
-    subst (IsLeast key_cmp (BreaksNameRules cs)) (sym (c.in_ok-key.ensures (omega arith))) (least_broken (names_of c.args.keys.now) cs o c.args.defined.now d 0 (omega arith) breaks (λ m l. absurd (omega (arith, l))))
+    subst (IsLeast key_cmp (BreaksNameRules cs)) (sym (c.in_ok-key.ensures (omega arith))) (least_broken (names_of c.args.keys.now) cs o (key_numbers c.args.defined.now) d 0 (omega arith) breaks (λ m l. absurd (omega (arith, l))))
 
 pub returns-in_err-defs : goal.returns-in_err-defs
 returns-in_err-defs c = λ ms cs o r h d t.

@@ -1,4 +1,4 @@
-use Rattle.std.proofs.Common.{◌≡◌, ℕ, ◌+◌, List, Option, false, true, get_or, length, map, refl, sym, subst, arith}
+use Rattle.std.proofs.Common.{◌≡◌, ℕ, ◌+◌, List, Option, false, get_or, length, map, refl, sym, subst, arith}
 use Rattle.std.specs.Prelude.{Vec, slice_range}
 use Rattle.std.specs.Rc.{rc_str_bytes}
 use Rattle.std.specs.declared.alloc.Global.{Global}
@@ -57,7 +57,7 @@ returns-then-not-branch c = λ modules k cs h are.
     let i = c.loop-piece.piece-index in
     let s = c.index-segment.result.now in
     let inherited = rc_str_bytes s.context.inherited.now in
-    let ds = declarations_at modules s.module in
+    let ds = declarations_at modules s.module.0 in
     let binds = binds_there modules x.list.items row pieces c.requires.pieces h.are.first begins i (piece_of pieces i) none s c.loop-piece-test.true refl c.index-segment.ensures x.contents.now h.are.each in
     let broken = subst (AddsResolved inherited ds (slice_range row (piece_of pieces i).from (piece_of pieces i).to) c.loop-piece.members.items c.push_resolved.new.members.items) c.if-not-branch.true (c.in_ok-push_resolved-in-None.ensures ds binds) in
     (broken.0, body_there modules x.list.items row pieces c.requires.pieces h.are.first begins i (piece_of pieces i) none s c.loop-piece-test.true refl c.index-segment.ensures k cs broken.0 are broken.1, broken.2)
@@ -72,7 +72,7 @@ loop-piece-preserved c = λ modules cs h.
     let s = c.index-segment.result.now in
     let ms = c.loop-piece.members.items in
     let inherited = rc_str_bytes s.context.inherited.now in
-    let ds = declarations_at modules s.module in
+    let ds = declarations_at modules s.module.0 in
     let old = c.loop-piece.invariant modules cs h in
     elim c.match-index.branch [
       | in-Some+in_ok-repeat-in-Some w ↦

@@ -14,4 +14,4 @@ added_outside r old new k OutsideElements f g = f refl
 pub returns-in-Some-clause-outside : goal.returns-in-Some-clause-outside
 returns-in-Some-clause-outside c =
     subst (λ k. OnOk c.add.result (c.add.new.self.outside.items ≡ c.args.row.now.outside.items ++ number_within OutsideElements c.args.reach k)) (sym c.in-Some.is)
-    (added_outside c.add.result c.args.row.now.outside.items c.add.new.self.outside.items c.in-Some.key c.args.reach c.add.ensures.outside c.add.ensures.inside)
+    (added_outside c.add.result c.args.row.now.outside.items c.add.new.self.outside.items c.in-Some.key.0 c.args.reach c.add.ensures.outside c.add.ensures.inside)

@@ -7,11 +7,11 @@ use Rattle.rn_assemble.specs.inside.Views.{names_of}
 use Rattle.rn_assemble.proofs.Referring.GatheredReferences.{Gathered}
 use Rattle.rn_assemble.proofs.by_key.references.references_of.Given as goal
 
-abbrev pub invariant-loop-key : goal.invariant-loop-key
-invariant-loop-key l = record {
+abbrev pub invariant-loop-number : goal.invariant-loop-number
+invariant-loop-number l = record {
   everywhere : AreRows (length (names_of l.keys) + 1) (rows_of l.found.everywhere);
-  everywhere_size : length (rows_of l.found.everywhere) ≡ l.key;
+  everywhere_size : length (rows_of l.found.everywhere) ≡ l.number;
   outside : AreRows (length (names_of l.keys) + 1) (rows_of l.found.outside);
-  outside_size : length (rows_of l.found.outside) ≡ l.key;
-  gathered : OfKeys l.keys l.rows l.segments (λ names cs. Gathered names cs l.is_defined.items (rows_of l.found.everywhere) (rows_of l.found.outside) l.key (option_map (λ s. s.now) l.undefined));
+  outside_size : length (rows_of l.found.outside) ≡ l.number;
+  gathered : OfKeys l.keys l.rows l.segments (λ names cs. Gathered names cs l.is_defined.items (rows_of l.found.everywhere) (rows_of l.found.outside) l.number (option_map (λ s. s.now) l.undefined));
 }

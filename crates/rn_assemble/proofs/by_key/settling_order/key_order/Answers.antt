@@ -3,6 +3,7 @@ use Rattle.rn_pattern.specs.Graph.{rows_of}
 use Rattle.rn_pattern.specs.Ranks.{IsOrdered, IsRanking, IsFirstLoop}
 use Rattle.rn_pattern.proofs.Graphs.BuiltRows.{row_within, kept_graph}
 use Rattle.rn_assemble.specs.inside.ReferenceOrder.{AreReached}
+use Rattle.rn_assemble.specs.inside.Views.{key_numbers}
 use Rattle.rn_assemble.proofs.Referring.NumberedReferences.{none_recursive, least_recursive}
 use Rattle.rn_assemble.proofs.Referring.KeyOrders.{marked_from, ranked_no_loop, order_shown, reference_order}
 use Rattle.rn_assemble.proofs.by_key.settling_order.key_order.Goals as goal
@@ -23,7 +24,7 @@ returns-in-Ranked c = λ names cs s refs.
     let kept = rows_of c.in_ok-outside.outside in
     let rows = c.in_ok-outside.ensures.kept in
     let ranks = c.in-Ranked.ranks.items in
-    let order = c.in_ok-order-in-Ranked.order.items in
+    let order = key_numbers c.in_ok-order-in-Ranked.order.items in
     let marked : AreReached everywhere seen = subst (AreReached everywhere) (sym c.as_slice-reached.ensures.value) (marked_from everywhere c.row-first.result.now c.in_ok-reached.reached.items c.row-first.ensures c.in_ok-reached.ensures.exact) in
     let ranking : IsRanking kept ranks = subst (IsOrdered kept) c.in-Ranked.is c.in_ok-ranks.ensures in
     let by_rank = order_shown seen seen c.as_slice.result.now ranks order refl c.as_slice.ensures.value c.in_ok-order-in-Ranked.ensures in (

@@ -11,7 +11,7 @@ use Rattle.rn_assemble.specs.Components.{instance_limit}
 use Rattle.rn_assemble.specs.inside.Included.{AreIncluded}
 use Rattle.rn_assemble.specs.inside.Instances.{instances_of}
 use Rattle.rn_assemble.specs.Refusal.{IsFirstFor, cycle}
-use Rattle.rn_assemble.specs.inside.Views.{named_module_view, modules_view}
+use Rattle.rn_assemble.specs.inside.Views.{module_numbers, modules_view, named_module_view}
 use Rattle.rn_assemble.proofs.Expansion.RootNumbers.{entries_below}
 use Rattle.rn_assemble.proofs.Expansion.FirstIncludes.{all_included, first_loop, name_seen, too_many}
 use Rattle.rn_assemble.proofs.including.inclusion.included_roots.Goals as goal
@@ -27,7 +27,7 @@ has_too_many_instances-requires-clause-graph c = c.in_ok-rows.ensures.graph
 
 pub has_too_many_instances-requires-clause-within : goal.has_too_many_instances-requires-clause-within
 has_too_many_instances-requires-clause-within c =
-    below_still _ _ _ (entries_below (rows_of c.in_ok-rows.rows)) (c.as_slice.ensures.value ∙ c.in_ok-roots.ensures)
+    below_still _ _ _ (entries_below (rows_of c.in_ok-rows.rows)) (ap module_numbers c.as_slice.ensures.value ∙ c.in_ok-roots.ensures)
 
 pub returns-in-Some : goal.returns-in-Some
 returns-in-Some c =
@@ -46,7 +46,7 @@ returns-then-has_too_many_instances c =
     let rows = rows_of c.in_ok-rows.rows in
     let loop_free = subst (λ o. MatchOption o (HasNoLoop rows) (IsFirstLoop rows)) c.in_default.is c.in_ok-module.ensures.least in
     too_many xs c.requires rows c.in_ok-rows.ensures loop_free
-    (λ depth l. subst (λ ns. instance_limit < sum_by (instances_of depth rows) ns) (c.as_slice.ensures.value ∙ c.in_ok-roots.ensures) ((c.has_too_many_instances.ensures depth l).0 c.if-has_too_many_instances.true))
+    (λ depth l. subst (λ ns. instance_limit < sum_by (instances_of depth rows) ns) (ap module_numbers c.as_slice.ensures.value ∙ c.in_ok-roots.ensures) ((c.has_too_many_instances.ensures depth l).0 c.if-has_too_many_instances.true))
 
 pub returns : goal.returns
 returns c =
@@ -56,4 +56,4 @@ returns c =
     subst (AreIncluded (modules_view xs)) (sym c.in_ok-roots.ensures)
     (all_included xs c.requires rows c.in_ok-rows.ensures loop_free
     (λ depth l more. false≢true (sym c.if-has_too_many_instances.false
-    ∙ (c.has_too_many_instances.ensures depth l).1 (subst (λ ns. instance_limit < sum_by (instances_of depth rows) ns) (sym (c.as_slice.ensures.value ∙ c.in_ok-roots.ensures)) more))))
+    ∙ (c.has_too_many_instances.ensures depth l).1 (subst (λ ns. instance_limit < sum_by (instances_of depth rows) ns) (sym (ap module_numbers c.as_slice.ensures.value ∙ c.in_ok-roots.ensures)) more))))

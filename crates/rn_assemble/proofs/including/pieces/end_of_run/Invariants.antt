@@ -7,7 +7,7 @@ abbrev pub invariant-loop-to : goal.invariant-loop-to
 invariant-loop-to l = record {
   further : l.from < l.to;
   within : l.to ≤ length l.row;
-  inside : (i : ℕ) (w : code.WrittenComponent) → l.from < i → i < l.to → slice_get l.row i ≡ Some w → (w.module ≡ l.«module») × (w.number < l.end);
+  inside : (i : ℕ) (w : code.WrittenComponent) → l.from < i → i < l.to → slice_get l.row i ≡ Some w → (w.module.0 ≡ l.«module».0) × (w.number < l.end);
 }
 
 abbrev pub decreases-loop-to : goal.decreases-loop-to

@@ -40,7 +40,7 @@ gather-items-init t c =
         [],
         subst (λ (xs : List Item). AreAmong names (defines (items_view xs))) (sym all) d,
         rows_none names c.args.rows.now.rows.items,
-        ap (λ (xs : List Item). placed_from c.args.number n (written_components (items_view xs))) all,
+        ap (λ (xs : List Item). placed_from c.args.«module».0 n (written_components (items_view xs))) all,
       );
       includes = λ ms named. ap (λ (xs : List Item). map inclusion_view c.args.contents.now.includes.items ++ inclusions ms n (items_view xs)) all;
       count = omega (arith, c.into_iter-item-iterator.ensures.into_iter_gives.1, c.args.items.ok, ap length all);
@@ -59,10 +59,10 @@ gather-items-preserved t c =
       kept = c.in_ok-gather_item.ensures.kept ∙ c.items.invariant.kept;
       more = omega (arith, c.in_ok-gather_item.ensures.count, ap length parted, length-append (item_written_components (item_view x)) (written_components (items_view rest)), c.items.invariant.more);
       rows = λ d. let h = c.items.invariant.rows d in (
-        h.0 ++ placed_from c.args.number c.items.contents.count (item_written_components (item_view x)),
+        h.0 ++ placed_from c.args.«module».0 c.items.contents.count (item_written_components (item_view x)),
         defined_rest names left rest x step h.1,
         rows_more names _ _ _ h.0 _ h.2 (c.in_ok-gather_item.ensures.rows (defined_first names left rest x step h.1)),
-        placed_more left rest x step c.args.number _ _ c.in_ok-gather_item.ensures.count h.0 _ h.3,
+        placed_more left rest x step c.args.«module».0 _ _ c.in_ok-gather_item.ensures.count h.0 _ h.3,
       );
       includes = λ ms named. inclusions_more ms left rest x step _ _ c.in_ok-gather_item.ensures.count _ _ _ (c.items.invariant.includes ms named) (c.in_ok-gather_item.ensures.includes ms named);
       count = omega (arith, c.in-Some.ensures.steps.1, c.items.invariant.count, ap length step);
@@ -73,7 +73,7 @@ gather-returns-clause-rows t c = λ d.
     let names = names_of c.args.keys.now in
     let h = c.items.invariant.rows d in
     let none = nothing_left (into_iter_items c.items.item-iterator) (sym c.items.invariant.count ∙ c.in-None.ensures.steps.0) in
-    let all = sym (append-nil h.0) ∙ ap (λ (xs : List Item). h.0 ++ placed_from c.args.number c.items.contents.count (written_components (items_view xs))) (sym none) ∙ h.3 in
+    let all = sym (append-nil h.0) ∙ ap (λ (xs : List Item). h.0 ++ placed_from c.args.«module».0 c.items.contents.count (written_components (items_view xs))) (sym none) ∙ h.3 in
     subst (AddsRows names c.args.rows.now.rows.items c.items.rows.rows.items) all h.2
 
 pub gather-returns-clause-includes : goal.gather-returns-clause-includes
@@ -92,7 +92,7 @@ gather_item-returns-in_ok-gather-in-Include-clause-includes t c = λ ms named.
     let include = c.in-Include.include.value in
     let got : c.into_inner-wanted.result ≡ include = c.into_inner-wanted.ensures in
     let own = c.in_ok-gather-in-Include.ensures in
-    let place = c.module_named-module.ensures.place c.requires.modules_in_order
+    let place = c.module_named-included.ensures.place c.requires.modules_in_order
     ∙ named_places ms c.args.modules.now c.deref.result.now named
     ∙ ap (place_in ms) (c.deref.ensures.value ∙ ap (λ (g : Include). cow_str_bytes g.wanted) got) in
     let inherit = ap (λ (g : Include). prefix_view g.inherit) got in

@@ -16,7 +16,7 @@ invariant-gather-items l = record {
   more : l.contents.count + length (written_components (items_view (into_iter_items l.item-iterator))) ≡ l.fn.contents.count + length (written_components (items_view l.fn.items.items));
   rows : AreAmong (names_of l.keys) (defines (items_view l.fn.items.items))
       → (gathered : List Placed) × AreAmong (names_of l.keys) (defines (items_view (into_iter_items l.item-iterator))) × AddsRows (names_of l.keys) l.fn.rows.rows.items l.rows.rows.items gathered
-      × (gathered ++ placed_from l.number l.contents.count (written_components (items_view (into_iter_items l.item-iterator))) ≡ placed_from l.number l.fn.contents.count (written_components (items_view l.fn.items.items)));
+      × (gathered ++ placed_from l.«module».0 l.contents.count (written_components (items_view (into_iter_items l.item-iterator))) ≡ placed_from l.«module».0 l.fn.contents.count (written_components (items_view l.fn.items.items)));
   includes : (ms : List NamedModule) → AreNamed ms l.modules
       → map inclusion_view l.contents.includes.items ++ inclusions ms l.contents.count (items_view (into_iter_items l.item-iterator))
       ≡ map inclusion_view l.fn.contents.includes.items ++ inclusions ms l.fn.contents.count (items_view l.fn.items.items);

@@ -1,16 +1,18 @@
-use Rattle.std.proofs.Common.{◌≡◌, ◌+◌, ◌-◌, ◌<◌, ◌≤◌, ◌++◌, ◌∷◌, [], ℕ, suc, List, length, get_or, take, drop, map, Option, Some, None, refl, sym, ap, ◌∙◌, subst, arith, Contains}
+use Rattle.std.proofs.Common.{◌≡◌, ◌+◌, ◌-◌, ◌<◌, ◌≤◌, ◌++◌, ◌∷◌, [], ℕ, suc, List, length, get_or, take, drop, map, Option, Some, None, refl, sym, ap, ◌∙◌, subst, arith}
 use Rattle.std.specs.Prelude.{slice_get, slice_range}
 use Rattle.std.specs.Borrow.{Bor}
 use Rattle.std.specs.List.{AllByRecursion}
 use Rattle.std.specs.Option.{option_map_or}
 use Rattle.std.specs.Rc.{rc_str_bytes}
 use Rattle.std.proofs.lemmas.List.{drop_more, length-append, take_more}
-use Rattle.std.proofs.lemmas.Option.{get_or_from_slice_get, slice_get-get_or, slice_get_past, slice_get_read}
+use Rattle.std.proofs.lemmas.Option.{same_Some, slice_get-get_or, slice_get_past, slice_get_read}
+use Rattle.std.proofs.lemmas.Slice.Zip.{AllZip-long}
 use Rattle.rn_text.specs.Texts.{Text}
 use Rattle.rn_assemble.specs.declared.reading.contents.Contents.{Contents}
 use Rattle.rn_assemble.specs.declared.reading.contents.Include.{Include}
+use Rattle.rn_assemble.specs.declared.reading.named_modules.ModuleId.{ModuleId}
 use Rattle.rn_assemble.specs.declared.resolving.declared_uris.DeclaredUris.{DeclaredUris}
-use Rattle.rn_assemble.specs.declared.including.segments.Brought.{Brought}
+use Rattle.rn_assemble.specs.declared.including.segments.FollowedInclude.{FollowedInclude}
 use Rattle.rn_assemble.specs.declared.including.segments.Segments.{Segments}
 use Rattle.rn_assemble.specs.Components as specs
 use Rattle.rn_assemble.specs.inside.Bringing.{Brings, IncludedLacks, included_in, own_components}
@@ -18,30 +20,29 @@ use Rattle.rn_assemble.specs.inside.ContentsOf.{IsContents, declarations_at, nam
 use Rattle.rn_assemble.specs.inside.ContextBindings.{BindsAs}
 use Rattle.rn_assemble.specs.inside.Lacking.{LacksWithin}
 use Rattle.rn_assemble.specs.inside.Segments.{IsBrought}
-use Rattle.rn_assemble.specs.inside.Views.{inclusion_view}
+use Rattle.rn_assemble.specs.inside.Views.{inclusion_view, module_number}
 use Rattle.rn_assemble.proofs.Expansion.BroughtSegments.{brings_include, brings_none, brings_segment, if_ok_to}
 use Rattle.rn_assemble.proofs.Expansion.IncludeOrder.{Ordered}
 use Rattle.rn_assemble.proofs.Expansion.LeftSegments.{has_written}
 use Rattle.rn_assemble.proofs.Expansion.ModuleExpansion.{IsWithin, can_segment, end_below, going_end, going_more, going_none, is_module}
-use Rattle.rn_assemble.proofs.Expansion.SegmentPlaces.{one_some, zip_size}
 use Rattle.rn_assemble.proofs.including.segments.Segments.+bring.Goals as goal
 use Rattle.rn_assemble.proofs.including.segments.Segments.+bring.Goals.{bring_included-in-Some+in_ok-bring, bring_included-in_default}
 
 pub bring-returns-then-depth-eq0 : goal.bring-returns-then-depth-eq0
 bring-returns-then-depth-eq0 t c = λ modules can l.
     let x = c.args.self.now in
-    let n = name_at modules c.args.«module» in
+    let n = name_at modules c.args.«module».0 in
     let u = rc_str_bytes c.args.inherited.now in
     subst (λ d. Brings modules x x (specs.components_within d modules n u) (specs.components_within d modules n u) (LacksWithin d modules n u)) (sym c.if-depth-eq0.true) (brings_none modules x can)
 
 pub bring-returns-in_default : goal.bring-returns-in_default
 bring-returns-in_default t c = λ modules can l.
-    absurd (omega (arith, l, zip_size (IsContents modules) modules c.args.self.now.contents.now can.are.contents, c.in_default.ensures.lookup.3))
+    absurd (omega (arith, l, AllZip-long (IsContents modules) modules c.args.self.now.contents.now can.are.contents, c.in_default.ensures.lookup.3))
 
 pub bring-includes-init : goal.bring-includes-init
 bring-includes-init t c = record {
   number_is = refl;
-  going = λ modules can is. going_none modules c.args.«module» c.in-Some.content.now is (rc_str_bytes c.of-context.result.inherited.now) (c.args.depth - 1) c.args.self.now can;
+  going = λ modules can is. going_none modules c.args.«module».0 c.in-Some.content.now is (rc_str_bytes c.of-context.result.inherited.now) (c.args.depth - 1) c.args.self.now can;
 }
 
 -- the contents of the module
@@ -56,7 +57,7 @@ bring-includes-preserved t c = record {
       let now = c.includes.self in
       let mid = c.add.new.self in
       let new = c.bring_included.new.self in
-      let m = c.args.«module» in
+      let m = c.args.«module».0 in
       let u = rc_str_bytes c.of-context.result.inherited.now in
       let ds = declarations_at modules m in
       let content = c.in-Some.content.now in
@@ -86,8 +87,8 @@ bring-includes-preserved t c = record {
         within = is.within;
         declarations = refl;
         binds = binds;
-        own = λ d e. subst (λ (k : Contents). Contains k.includes.items i) (one_some content d (sym after ∙ e)) (n, below, get_or_from_slice_get items n i i here);
-        included = within.0;
+        own = λ d e. subst (λ (k : Contents). slice_get k.includes.items c.includes.number ≡ Some i) (same_Some content d (sym after ∙ e)) (ap (slice_get items) number ∙ here);
+        included = λ j e. within.0 j.0 (ap module_number e);
         ordered = ordered.1;
         to_within = ordered.2;
       }) in
@@ -99,7 +100,7 @@ bring-returns t c = λ modules can l.
     let x = c.args.self.now in
     let now = c.includes.self in
     let new = c.add-2.new.self in
-    let m = c.args.«module» in
+    let m = c.args.«module».0 in
     let u = rc_str_bytes c.args.inherited.now in
     let v = rc_str_bytes c.of-context.result.inherited.now in
     let ds = declarations_at modules m in
@@ -131,23 +132,23 @@ pub bring_included-returns : goal.bring_included-returns
 bring_included-returns t c = λ modules ds can i.
     let x = c.args.self.now in
     let y = c.match-include.self in
-    let m = c.args.«module» in
+    let m = c.args.«module».0 in
     let include = c.args.include.now in
     let j = inclusion_view include in
     let u = rc_str_bytes c.args.context.inherited.now in
     let v = specs.handed_on u ds j.inherit in
     let depth = c.args.depth in
-    let included : Brings modules x y (included_in depth modules include.«module» v) (included_in depth modules include.«module» v) (IncludedLacks depth modules include.«module» v) = elim c.match-include.branch [
+    let included : Brings modules x y (included_in depth modules (module_number include.«module») v) (included_in depth modules (module_number include.«module») v) (IncludedLacks depth modules (module_number include.«module») v) = elim c.match-include.branch [
       | bring_included-in-Some+in_ok-bring w ↦
-          subst (λ (s : Segments). Brings modules x s (included_in depth modules include.«module» v) (included_in depth modules include.«module» v) (IncludedLacks depth modules include.«module» v)) (sym w.self-is)
-          (subst (λ (o : Option ℕ). Brings modules x w.bring.new.self (included_in depth modules o v) (included_in depth modules o v) (IncludedLacks depth modules o v)) (sym w.in-Some.is)
-          (subst (λ (z : Text). Brings modules x w.bring.new.self (specs.components_within depth modules (name_at modules w.in-Some.included) z) (specs.components_within depth modules (name_at modules w.in-Some.included) z) (LacksWithin depth modules (name_at modules w.in-Some.included) z))
+          subst (λ (s : Segments). Brings modules x s (included_in depth modules (module_number include.«module») v) (included_in depth modules (module_number include.«module») v) (IncludedLacks depth modules (module_number include.«module») v)) (sym w.self-is)
+          (subst (λ (o : Option ModuleId). Brings modules x w.bring.new.self (included_in depth modules (module_number o) v) (included_in depth modules (module_number o) v) (IncludedLacks depth modules (module_number o) v)) (sym w.in-Some.is)
+          (subst (λ (z : Text). Brings modules x w.bring.new.self (specs.components_within depth modules (name_at modules w.in-Some.included.0) z) (specs.components_within depth modules (name_at modules w.in-Some.included.0) z) (LacksWithin depth modules (name_at modules w.in-Some.included.0) z))
           (w.handed_on-inherited.ensures ds i.binds) (w.in_ok-bring.ensures modules can (i.included w.in-Some.included w.in-Some.is))))
       | bring_included-in_default w ↦
-          subst (λ (s : Segments). Brings modules x s (included_in depth modules include.«module» v) (included_in depth modules include.«module» v) (IncludedLacks depth modules include.«module» v)) (sym w.self-is)
-          (subst (λ (o : Option ℕ). Brings modules x x (included_in depth modules o v) (included_in depth modules o v) (IncludedLacks depth modules o v)) (sym w.in_default.is) (brings_none modules x can))
+          subst (λ (s : Segments). Brings modules x s (included_in depth modules (module_number include.«module») v) (included_in depth modules (module_number include.«module») v) (IncludedLacks depth modules (module_number include.«module») v)) (sym w.self-is)
+          (subst (λ (o : Option ModuleId). Brings modules x x (included_in depth modules (module_number o) v) (included_in depth modules (module_number o) v) (IncludedLacks depth modules (module_number o) v)) (sym w.in_default.is) (brings_none modules x can))
     ] in
-    let b : Brought = record { «module» = m; own_from = include.from; own_to = include.to; from = c.len-from.result; to = c.len.result } in
+    let b : FollowedInclude = record { «module» = c.args.«module»; number = c.args.number; own_from = include.from; own_to = include.to; from = c.len-from.result; to = c.len.result } in
     let begins : c.len-from.result ≡ length x.list.items = omega (arith, c.len-from.ensures) in
     let ends : c.len.result ≡ length y.list.items = omega (arith, c.len.ensures) in
     let size : length y.list.items ≡ length x.list.items + length included.segments = ap length included.list_is ∙ length-append x.list.items included.segments in
@@ -159,5 +160,5 @@ bring_included-returns t c = λ modules ds can i.
       ordered = omega (arith, begins, ends, size);
       within = omega (arith, ends);
     } in
-    brings_include modules x y c.push.new.self (included_in depth modules include.«module» v) (own_components modules m u ds j) (IncludedLacks depth modules include.«module» v) included b c.in_ok-push.ensures.items is begins ends
+    brings_include modules x y c.push.new.self (included_in depth modules (module_number include.«module») v) (own_components modules m u ds j) (IncludedLacks depth modules (module_number include.«module») v) included b c.in_ok-push.ensures.items is begins ends
     (λ k. has_written u ds k (slice_range (written_at modules m) include.from include.to))

@@ -14,6 +14,6 @@ decreases-bring_included l = 2 * l.depth + 1
 abbrev pub invariant-bring-includes : goal.invariant-bring-includes
 invariant-bring-includes l = record {
   number_is : l.number ≡ l.include-index;
-  going : (modules : List NamedModule) → CanBring modules l.fn.self → IsModule modules l.«module» l.content
-      → Going modules l.«module» (rc_str_bytes l.context.inherited.now) (l.depth - 1) l.content l.fn.self l.self l.include-index l.from;
+  going : (modules : List NamedModule) → CanBring modules l.fn.self → IsModule modules l.«module».0 l.content
+      → Going modules l.«module».0 (rc_str_bytes l.context.inherited.now) (l.depth - 1) l.content l.fn.self l.self l.include-index l.from;
 }

@@ -1,8 +1,9 @@
-use Rattle.std.proofs.Common.{List, Option, sym, ◌∙◌, subst, take, ℕ, ◌+◌}
+use Rattle.std.proofs.Common.{List, Option, sym, ◌∙◌, subst, take, ◌+◌}
 use Rattle.std.proofs.lemmas.Bool.{false≢true}
 use Rattle.std.proofs.lemmas.List.{take_all}
 use Rattle.rn_pattern.proofs.Ordered.InOrder.{contained_each}
-use Rattle.rn_assemble.specs.declared.including.segments.Brought.{Brought}
+use Rattle.rn_assemble.specs.declared.including.segments.FollowedInclude.{FollowedInclude}
+use Rattle.rn_assemble.specs.declared.reading.named_modules.ModuleId.{ModuleId}
 use Rattle.rn_assemble.specs.inside.Runs.{IsLackByPieces}
 use Rattle.rn_assemble.specs.inside.Segments.{IsBrought}
 use Rattle.rn_assemble.proofs.KeyPieces.LackingPieces.{IsLeastOf, lacks_pieces, least_lacking, met_at, overrides_same, passed_at, pieces_lack}
@@ -29,10 +30,10 @@ loop-brought-preserved c =
     record {
       least = elim c.if-lacks.branch [
         | then-lacks w ↦
-            subst (λ (o : Option ℕ). IsLeastOf P (take (i + 1) bs) o) (sym w.least-is)
+            subst (λ (o : Option ModuleId). IsLeastOf P (take (i + 1) bs) o) (sym w.least-is)
             (met_at P bs i _ c.loop-brought-test.true c.loop-brought.least before w.lesser.result (c.lacks.ensures.0 w.if-lacks.true) w.lesser.ensures)
         | else-lacks w ↦
-            subst (λ (o : Option ℕ). IsLeastOf P (take (i + 1) bs) o) (sym w.least-is)
+            subst (λ (o : Option ModuleId). IsLeastOf P (take (i + 1) bs) o) (sym w.least-is)
             (passed_at P bs i _ c.loop-brought-test.true c.loop-brought.least before (λ p. false≢true (sym w.if-lacks.false ∙ c.lacks.ensures.1 p)))
       ];
     }
@@ -50,4 +51,4 @@ returns c = λ modules k cs is segments.
     (λ b there p. let h = brought b there in pieces_lack modules k row is x.list.items pieces c.requires.all b h.ordered h.within p)
     (λ b there l. let h = brought b there in lacks_pieces modules k row is x.list.items pieces c.requires.all b h.ordered h.within l)
     c.loop-brought.least
-    (subst (λ (cs : List Brought). IsLeastOf P cs c.loop-brought.least) all c.loop-brought.invariant.least)
+    (subst (λ (cs : List FollowedInclude). IsLeastOf P cs c.loop-brought.least) all c.loop-brought.invariant.least)

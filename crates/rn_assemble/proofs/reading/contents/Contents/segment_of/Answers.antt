@@ -8,7 +8,7 @@ use Rattle.rn_assemble.proofs.reading.contents.Contents.segment_of.Goals as goal
 
 pub returns : goal.returns
 returns c =
-    let k = c.args.component in
+    let k = c.args.number in
     let n = c.partition_point.result in
     let seen : c.deref.result.now ≡ c.args.self.now.includes.items = c.deref.ensures.value in
     let rise = subst (λ (is : List Include). IsNonDecreasingBy (λ (i : Include). i.from) is) (sym seen) c.requires in
