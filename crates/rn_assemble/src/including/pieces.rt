@@ -105,7 +105,7 @@ impl Segments<'_, '_, '_> {
     }
 
     /// Whether one of the components is an include's own. Where none is, no include overrides the key.
-    fn has_own(&self, row: &[WrittenComponent<'_>]) -> bool
+    pub fn has_own(&self, row: &[WrittenComponent<'_>]) -> bool
         requires { IsKnownRow row.now self.now }
         ensures { (b : FollowedInclude) → Contains self.now.brought.items b
             → IsTrue (overrides_in row.now b) → IsTrue result }
@@ -178,7 +178,11 @@ impl Segments<'_, '_, '_> {
 }
 
 /// Whether the include overrides the key, of which it brought nothing in; `pieces` has all pieces of the key.
-fn lacks(row: &[WrittenComponent<'_>], pieces: &[Piece], brought: &FollowedInclude) -> bool
+pub(crate) fn lacks(
+    row: &[WrittenComponent<'_>],
+    pieces: &[Piece],
+    brought: &FollowedInclude,
+) -> bool
     requires row_ordered { IsOrderedRow row.now }
     requires rise { IsStrictlyIncreasing (map (λ (p : Piece). p.segment) pieces.now) }
     requires ordered { brought.now.from ≤ brought.now.to }
@@ -224,13 +228,24 @@ fn overrides(row: &[WrittenComponent<'_>], brought: &FollowedInclude) -> bool
     requires { IsOrderedRow row.now }
     ensures { result ≡ overrides_in row.now brought.now }
 {
+    first_own(row, brought).is_some()
+}
+
+/// The first of the include's own components that has the key.
+pub(crate) fn first_own<'r, 's>(
+    row: &'r [WrittenComponent<'s>],
+    brought: &FollowedInclude,
+) -> Option<&'r WrittenComponent<'s>> {
     let at = row.partition_point(|component: &WrittenComponent<'_>| {
         component.module < brought.module
             || (component.module == brought.module && component.number < brought.own_from)
     });
     match row.get(at) {
-        Some(component) => component.module == brought.module && component.number < brought.own_to,
-        None => false,
+        Some(component)
+            if component.module == brought.module && component.number < brought.own_to => {
+            Some(component)
+        }
+        _ => None,
     }
 }
 

@@ -1,0 +1,135 @@
+// What a set is made of, and what stands against it.
+use super::findings::{Finding, findings};
+use super::left_definitions::left_definitions;
+use super::loops::loop_of;
+use super::occurrences::{FirstTwo, depths_of};
+use super::places::{ComponentPlace, LeftDefinition};
+use crate::including::inclusion::included_roots;
+use crate::including::segments::Segments;
+use crate::reading::contents::contents_of;
+use crate::reading::key_rows::KeyRows;
+use crate::reading::keys::{KeyId, Keys, START, seed_of};
+use crate::reading::named_modules::{NamedModule, read_modules, split_items};
+use crate::refusal::{Key, Refusal};
+use crate::resolving::constants::Constants;
+use rn_modset::ModuleSet;
+use rn_pattern::Seed;
+use std::alloc::{AllocError, Global};
+
+/// The definitions of a set, and what stands against it.
+#[derive(Drop)]
+pub struct Diagnosis<'s> {
+    /// The name of each key, in the order of keys; no bytes for the start, which is the first.
+    pub names: Vec<&'s str>,
+    /// The definitions that are left, each once, in the order in which they are combined.
+    pub definitions: Vec<LeftDefinition>,
+    /// What stands against the set, of the kinds of which all can be found; in the order in which it is refused for them.
+    pub findings: Vec<Finding<'s>>,
+    /// Of a refusal for a loop, the definitions of a shortest one; for a name class, the first definition of its key; else
+    /// nothing.
+    pub way: Vec<ComponentPlace>,
+}
+
+impl<'s> Diagnosis<'s> {
+    /// The name of a key: no bytes for the start, and for a key of another set.
+    pub fn name(&self, key: KeyId) -> &'s str {
+        match self.names.get(key.0) {
+            Some(name) => name,
+            None => "",
+        }
+    }
+
+    /// The names that have a definition which is left, in order.
+    pub fn defined_names(&self, alloc: Global) -> Result<Vec<&'s str>, AllocError> {
+        let mut is_defined = vec![in alloc; false; self.names.len()]?;
+        for definition in &self.definitions {
+            is_defined[definition.key.0] = true;
+        }
+        let mut names = Vec::new(alloc);
+        for number in 1..self.names.len() {
+            if is_defined[number] {
+                names.push(self.names[number])?;
+            }
+        }
+        Ok(names)
+    }
+}
+
+/// The definitions of a set, all that stands against it, and where a refusal of it is, if one is given. Refused as
+/// [`assemble`](crate::assemble) refuses the set for its texts and includes; `Memory` where memory runs out.
+pub fn diagnose<'s>(
+    alloc: Global,
+    set: &'s ModuleSet,
+    refusal: Option<&Refusal>,
+) -> Result<Diagnosis<'s>, Refusal> {
+    let modules = read_modules(alloc, set)?;
+    diagnose_modules(alloc, modules, refusal, &seed_of(set))
+}
+
+/// The definitions of the modules, and what stands against them. The names of definitions are hashed by the seed.
+fn diagnose_modules<'s>(
+    alloc: Global,
+    modules: Vec<NamedModule<'s>>,
+    refusal: Option<&Refusal>,
+    seed: &Seed,
+) -> Result<Diagnosis<'s>, Refusal> {
+    let roots = included_roots(alloc, modules.as_slice())?;
+    let keys = Keys::new(alloc, modules.as_slice(), seed)?;
+    let constants = Constants::new(alloc)?;
+    let (modules, items) = split_items(alloc, modules)?;
+    let (contents, rows) = contents_of(alloc, modules.as_slice(), items, &keys, &constants)?;
+    let segments = Segments::of_roots(alloc, contents.as_slice(), &constants, roots.as_slice())?;
+    Ok(Diagnosis {
+        names: names_of_keys(alloc, &keys)?,
+        definitions: left_definitions(alloc, &rows, &segments)?,
+        findings: findings(alloc, &keys, &rows, &segments)?,
+        way: way_of(alloc, &keys, &rows, &segments, refusal)?,
+    })
+}
+
+/// The name of each key.
+fn names_of_keys<'s>(alloc: Global, keys: &Keys<'s>) -> Result<Vec<&'s str>, AllocError> {
+    let mut names = Vec::with_capacity(alloc, keys.len())?;
+    for number in 0..keys.len() {
+        names.push(keys.name(KeyId(number)))?;
+    }
+    Ok(names)
+}
+
+/// Where a refusal is of which not all can be found.
+fn way_of<'s>(
+    alloc: Global,
+    keys: &Keys<'s>,
+    rows: &KeyRows<'s>,
+    segments: &Segments<'_, '_, '_>,
+    refusal: Option<&Refusal>,
+) -> Result<Vec<ComponentPlace>, AllocError> {
+    match refusal {
+        Some(Refusal::Recursive { name }) => loop_of(alloc, keys, rows, segments, name),
+        Some(Refusal::NameClass { key: Key::Start }) => first_of(alloc, rows, segments, START),
+        Some(
+            Refusal::NameClass {
+                key: Key::Define(name),
+            },
+        ) => first_of(alloc, rows, segments, keys.number(name)),
+        _ => Ok(Vec::new(alloc)),
+    }
+}
+
+/// The first definition of a key that is left, if there is one.
+fn first_of(
+    alloc: Global,
+    rows: &KeyRows<'_>,
+    segments: &Segments<'_, '_, '_>,
+    key: KeyId,
+) -> Result<Vec<ComponentPlace>, AllocError> {
+    let row = rows.row(key);
+    let mut pieces = Vec::new(alloc);
+    segments.live_pieces(row, &mut pieces)?;
+    let depths = depths_of(alloc, segments)?;
+    let mut places = Vec::new(alloc);
+    if let Some(first) = FirstTwo::of(row, &pieces, &depths, None).first {
+        places.push(ComponentPlace::of(&row[first.index]))?;
+    }
+    Ok(places)
+}

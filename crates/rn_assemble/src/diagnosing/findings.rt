@@ -1,0 +1,220 @@
+// What stands against combining a set, all of it (RELAX NG 2001, 4.7, 4.17 and 4.18).
+use super::occurrences::{FirstTwo, Occurrence, depths_of, parting_includes};
+use super::places::{ComponentPlace, IncludePlace, ReferencePlace};
+use super::undefined_names::undefined_names;
+use crate::including::pieces::{first_own, lacks};
+use crate::including::segments::{FollowedInclude, Segments};
+use crate::reading::key_rows::{KeyRows, WrittenComponent};
+use crate::reading::keys::{KeyId, Keys, START};
+use rn_syntax::Method;
+use std::alloc::{AllocError, Global};
+
+/// Something that stands against a set, of the kinds of which all can be found at once. The kinds are in the order in
+/// which a set is refused for them.
+#[derive(Clone, Copy, Debug, PartialEq, Eq)]
+pub enum Finding<'s> {
+    /// An include defines a key that the included module, with all that it includes, lacks (4.7).
+    Override {
+        /// The key.
+        key: KeyId,
+        /// The first of the include's definitions of the key.
+        component: ComponentPlace,
+        /// The include.
+        include: IncludePlace,
+    },
+    /// A key has two definitions by `=` (4.17).
+    PlainTwice {
+        /// The key.
+        key: KeyId,
+        /// The first of them.
+        first: ComponentPlace,
+        /// The second; the same where its module comes twice.
+        second: ComponentPlace,
+        /// Where it is the same, the includes at which its two ways part.
+        parting: Option<(IncludePlace, IncludePlace)>,
+    },
+    /// A key has definitions by `|=` and by `&=` (4.17).
+    MixedMethods {
+        /// The key.
+        key: KeyId,
+        /// The first definition by `|=`.
+        choice: ComponentPlace,
+        /// The first one by `&=`.
+        interleave: ComponentPlace,
+    },
+    /// Nothing defines the start (4.18).
+    NoStart,
+    /// A name is referred to and not defined (4.18).
+    Undefined {
+        /// The name.
+        name: &'s str,
+        /// The first reference to it.
+        reference: ReferencePlace,
+    },
+}
+
+/// What stands against the set, each once, in the order in which it would be refused for it.
+pub(crate) fn findings<'s>(
+    alloc: Global,
+    keys: &Keys<'s>,
+    rows: &KeyRows<'s>,
+    segments: &Segments<'_, '_, '_>,
+) -> Result<Vec<Finding<'s>>, AllocError> {
+    let mut found = Vec::new(alloc);
+    for lack in lacks_of(alloc, rows, segments)? {
+        found.push(Finding::Override {
+            key: lack.key,
+            component: lack.component,
+            include: lack.include,
+        })?;
+    }
+    let depths = depths_of(alloc, segments)?;
+    push_plain_twice(alloc, rows, segments, &depths, &mut found)?;
+    push_mixed(alloc, rows, segments, &depths, &mut found)?;
+    push_no_start(alloc, rows, segments, &mut found)?;
+    for undefined in undefined_names(alloc, keys, rows, segments)? {
+        found.push(Finding::Undefined {
+            name: undefined.name,
+            reference: undefined.reference,
+        })?;
+    }
+    Ok(found)
+}
+
+/// An include's definition of a key that the included module lacks.
+#[derive(Clone, Copy)]
+struct Lack {
+    key: KeyId,
+    component: ComponentPlace,
+    include: IncludePlace,
+}
+
+/// The includes' definitions of what the included modules lack: of each module and key the first.
+fn lacks_of(
+    alloc: Global,
+    rows: &KeyRows<'_>,
+    segments: &Segments<'_, '_, '_>,
+) -> Result<Vec<Lack>, AllocError> {
+    let mut found = Vec::new(alloc);
+    let mut pieces = Vec::new(alloc);
+    for number in 0..rows.len() {
+        let key = KeyId(number);
+        let row = rows.row(key);
+        segments.all_pieces(row, &mut pieces)?;
+        if segments.has_own(row) {
+            for include in &segments.brought {
+                if lacks(row, &pieces, include) {
+                    push_lack(key, row, include, &mut found)?;
+                }
+            }
+        }
+    }
+    found.sort_by_key(|lack: &Lack| (lack.component.module, lack.key, lack.component.number))?;
+    found.dedup_by(|later, before| {
+        (later.component.module, later.key) == (before.component.module, before.key)
+    });
+    Ok(found)
+}
+
+/// Adds the include's first definition of a key that it overrides.
+fn push_lack(
+    key: KeyId,
+    row: &[WrittenComponent<'_>],
+    include: &FollowedInclude,
+    found: &mut Vec<Lack>,
+) -> Result<(), AllocError> {
+    if let Some(component) = first_own(row, include) {
+        found.push(Lack {
+            key,
+            component: ComponentPlace::of(component),
+            include: IncludePlace {
+                module: include.module,
+                number: include.number,
+            },
+        })?;
+    }
+    Ok(())
+}
+
+/// Adds the keys with two definitions by `=`.
+fn push_plain_twice(
+    alloc: Global,
+    rows: &KeyRows<'_>,
+    segments: &Segments<'_, '_, '_>,
+    depths: &[usize],
+    found: &mut Vec<Finding<'_>>,
+) -> Result<(), AllocError> {
+    let mut pieces = Vec::new(alloc);
+    for number in 0..rows.len() {
+        let key = KeyId(number);
+        let row = rows.row(key);
+        segments.live_pieces(row, &mut pieces)?;
+        let plain = FirstTwo::of(row, &pieces, depths, Some(Method::Plain));
+        if let (Some(first), Some(second)) = (plain.first, plain.second) {
+            found.push(plain_twice(key, row, segments, first, second))?;
+        }
+    }
+    Ok(())
+}
+
+/// That a key has two definitions by `=`, or one that comes twice.
+fn plain_twice<'s>(
+    key: KeyId,
+    row: &[WrittenComponent<'_>],
+    segments: &Segments<'_, '_, '_>,
+    first: Occurrence,
+    second: Occurrence,
+) -> Finding<'s> {
+    let parting = if first.index == second.index {
+        parting_includes(segments, first.segment, second.segment)
+    } else {
+        None
+    };
+    Finding::PlainTwice {
+        key,
+        first: ComponentPlace::of(&row[first.index]),
+        second: ComponentPlace::of(&row[second.index]),
+        parting,
+    }
+}
+
+/// Adds the keys with definitions by `|=` and by `&=`.
+fn push_mixed(
+    alloc: Global,
+    rows: &KeyRows<'_>,
+    segments: &Segments<'_, '_, '_>,
+    depths: &[usize],
+    found: &mut Vec<Finding<'_>>,
+) -> Result<(), AllocError> {
+    let mut pieces = Vec::new(alloc);
+    for number in 0..rows.len() {
+        let key = KeyId(number);
+        let row = rows.row(key);
+        segments.live_pieces(row, &mut pieces)?;
+        let choice = FirstTwo::of(row, &pieces, depths, Some(Method::Choice)).first;
+        let interleave = FirstTwo::of(row, &pieces, depths, Some(Method::Interleave)).first;
+        if let (Some(choice), Some(interleave)) = (choice, interleave) {
+            found.push(Finding::MixedMethods {
+                key,
+                choice: ComponentPlace::of(&row[choice.index]),
+                interleave: ComponentPlace::of(&row[interleave.index]),
+            })?;
+        }
+    }
+    Ok(())
+}
+
+/// Adds that nothing defines the start, where that is so.
+fn push_no_start(
+    alloc: Global,
+    rows: &KeyRows<'_>,
+    segments: &Segments<'_, '_, '_>,
+    found: &mut Vec<Finding<'_>>,
+) -> Result<(), AllocError> {
+    let mut pieces = Vec::new(alloc);
+    segments.live_pieces(rows.row(START), &mut pieces)?;
+    if pieces.is_empty() {
+        found.push(Finding::NoStart)?;
+    }
+    Ok(())
+}
