@@ -17,7 +17,6 @@ pub mod Keyed
 pub mod Lacking
 pub mod Methods
 pub mod ModuleTexts
-pub mod Numbers
 pub mod OneProof
 pub mod Patterns
 pub mod Pieces

@@ -8,11 +8,10 @@ ghost use Rattle.rn_assemble.specs.GrammarView.{grammar_view};
 ghost use Rattle.rn_assemble.specs.Refusal.{IsAssembled};
 ghost use Rattle.rn_assemble.specs.Refused.{IsFirstRefusal};
 ghost use Rattle.rn_assemble.specs.ShortTexts.{IsShortened, short_texts};
-ghost use Rattle.rn_assemble.specs.inside.Numbers.{key_numbers};
 ghost use Rattle.rn_assemble.specs.inside.Pieces.{AreKnownBy, OfKeys};
 ghost use Rattle.rn_assemble.specs.inside.ReferenceOrder.{AreDefinedKeys, IsReferenceOrder};
 ghost use Rattle.rn_assemble.specs.inside.Sound.{HasSoundReferences, IsUnsound};
-ghost use Rattle.rn_assemble.specs.inside.Views.{AreInOrder, AreNamed, modules_view, names_of};
+ghost use Rattle.rn_assemble.specs.inside.Views.{AreInOrder, AreNamed, key_numbers, modules_view, names_of};
 
 use crate::by_key::checks::{check_methods, check_overrides};
 use crate::by_key::combining::joined_grammar;
@@ -95,8 +94,7 @@ fn join_modules(
     join_keys(alloc, modules.as_slice(), &keys, rows, &segments, seed)
 }
 
-/// The grammar to which the modules' components are joined, or the first refusal that is true of them. The modules may
-/// be without their items.
+/// The grammar to which the modules' components are joined, or the first refusal that stands. Modules need no items here.
 fn join_keys<'s>(
     alloc: Global,
     modules: &[NamedModule<'_>],

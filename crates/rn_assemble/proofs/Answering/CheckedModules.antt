@@ -22,7 +22,6 @@ use Rattle.rn_assemble.specs.inside.Included.{AreIncluded}
 use Rattle.rn_assemble.specs.inside.Joining.{CanBeJoined, IsJoinedGrammar, IsMisnamed}
 use Rattle.rn_assemble.specs.inside.Lacking.{LacksFrom}
 use Rattle.rn_assemble.specs.inside.Methods.{CanCombine}
-use Rattle.rn_assemble.specs.inside.Pieces.{AreKnownBy}
 use Rattle.rn_assemble.specs.inside.Rows.{AreRows}
 use Rattle.rn_assemble.specs.inside.Segments.{AreSegmentsOf, IsBrought}
 use Rattle.rn_assemble.specs.Refusal.{Lacks}
@@ -52,9 +51,6 @@ expanded modules names rows x numbers o flat a are segments found = record {
 }
 
 module _ (modules : List NamedModule) (names : List Text) (rows : KeyRows) (x : Segments) (h : AreExpanded modules names rows x) where
-  pub known_by : AreKnownBy names rows x
-  known_by = record { modules = modules; components = set_components modules; in_order = h.in_order; rows_are = h.rows_are; segments_are = h.segments_are }
-
   -- the module of each include that was followed is there
   pub brought_within : (b : FollowedInclude) → Contains x.brought.items b → b.«module».0 < length modules
   brought_within b c = (contained_each (IsBrought modules x.contents.now x.list.items) x.brought.items h.segments_are.brought b c).module_within

@@ -1,5 +1,5 @@
 -- The first refusal of modules: of the refusals in their order, which one stands and that none before it does.
-use Rattle.std.proofs.Common.{◌≡◌, ℕ, ◌<◌, List, refl, sym, ◌∙◌, subst, arith}
+use Rattle.std.proofs.Common.{◌≡◌, ℕ, ◌<◌, List, refl, sym, ◌∙◌, arith}
 use Rattle.std.specs.Prelude.{true}
 use Rattle.std.proofs.lemmas.Bool.{false≢true}
 use Rattle.rn_text.specs.Texts.{Text}
@@ -59,9 +59,6 @@ module _ (modules : List NamedModule) where
 
   pub none_sound : NoneBelow 9 → HasSoundReferences (set_components modules) → NoneBelow 11
   none_sound n s = none_recursive (none_undefined n s.defined) s.loop_free
-
-  pub memory_first : (q : code.Refusal) → q ≡ r.Memory → IsFirstOfModules modules q
-  memory_first q e = subst (λ p. IsFirstOfModules modules p) (sym e) refl
 
   -- what is found is the first
   pub lacking_first : NoneBelow 5 → (q : code.Refusal) → IsLacking modules q → IsFirstOfModules modules q

@@ -9,7 +9,7 @@ use Rattle.std.proofs.lemmas.List.Folds.{concat-append, list_any-append, list_an
 use Rattle.rn_pattern.specs.Graph.{is_marked, row}
 use Rattle.rn_assemble.specs.declared.reading.named_modules.ModuleId.{ModuleId}
 use Rattle.rn_assemble.specs.inside.Inclusions.{entries}
-use Rattle.rn_assemble.specs.inside.Numbers.{module_numbers}
+use Rattle.rn_assemble.specs.inside.Views.{module_numbers}
 
 or_last : (a b : Bool) → true ≡ (a || (b || true))
 or_last true b = refl

@@ -5,7 +5,7 @@ use Rattle.std.specs.List.{AllByRecursion}
 use Rattle.std.specs.Option.{option_map_or}
 use Rattle.std.proofs.lemmas.List.{drop_all, map-append, take_all}
 use Rattle.std.proofs.lemmas.List.Elements.{All-from_recursion}
-use Rattle.std.proofs.lemmas.Option.{get_or_from_slice_get}
+use Rattle.std.proofs.lemmas.Option.{get_or_from_slice_get, same_Some}
 use Rattle.rn_text.specs.Texts.{Text}
 use Rattle.rn_pattern.proofs.Ordered.Ascending.{each_append}
 use Rattle.rn_syntax.specs.Tree as t
@@ -26,7 +26,7 @@ use Rattle.rn_assemble.proofs.Expansion.IncludedLacks.{SomeLacks, lacks_are, som
 use Rattle.rn_assemble.proofs.Expansion.IncludeOrder.{Ordered, inclusions_ordered}
 use Rattle.rn_assemble.proofs.Expansion.ModuleLookups.{expanded_is, included_agrees, one_named, place_within}
 use Rattle.rn_assemble.proofs.Expansion.SameNamespaces.{agree_back, components_alike, lacks_alike}
-use Rattle.rn_assemble.proofs.Expansion.SegmentPlaces.{one_some, zip_get}
+use Rattle.rn_assemble.proofs.Expansion.SegmentPlaces.{zip_get}
 use Rattle.rn_assemble.proofs.Expansion.Spliced.{keys_unparted, spliced, spliced_is, unparted}
 
 -- each include's module is one of the modules
@@ -65,7 +65,7 @@ is_module modules contents m content can l at =
     let one = one_named modules can.in_order m l in
     let same : one.0 ≡ n = sym (one.1 n) ∙ get_or_from_slice_get modules m n n z.2 in
     let named = one.2 ∙ ap (λ (k : NamedModule). k ∷ []) same in
-    let is : IsContents modules n content = subst (IsContents modules n) (one_some z.1 content (sym z.3 ∙ at)) z.4 in
+    let is : IsContents modules n content = subst (IsContents modules n) (same_Some z.1 content (sym z.3 ∙ at)) z.4 in
     let flat : AreFlat n.tree.items = subst (λ (k : NamedModule). AreFlat k.tree.items) (one.1 n ∙ same) (All-from_recursion (λ (k : NamedModule). AreFlat k.tree.items) modules can.flat m n l) in
     let ds : n.tree.declarations ≡ declarations_at modules m = sym (ap (λ (o : Option NamedModule). option_map_or (λ (k : NamedModule). k.tree.declarations) o []) z.2) in
     let ws : written_components n.tree.items ≡ written_at modules m = sym (ap (λ (o : Option NamedModule). option_map_or (λ (k : NamedModule). written_components k.tree.items) o []) z.2) in
@@ -112,7 +112,7 @@ module _ (modules : List NamedModule) (m : ℕ) (content : Contents) (is : IsMod
   can_segment x context n from to at binds l begins ends ordered below = record {
     within = is.within;
     binds = binds;
-    numbered = λ c e. subst (λ (d : Contents). (n ≤ length d.includes.items) × (from ≡ segment_begin d.includes.items n) × (to ≡ segment_end d n)) (one_some content c (sym at ∙ e)) (l, begins, ends);
+    numbered = λ c e. subst (λ (d : Contents). (n ≤ length d.includes.items) × (from ≡ segment_begin d.includes.items n) × (to ≡ segment_end d n)) (same_Some content c (sym at ∙ e)) (l, begins, ends);
     ordered = ordered;
     to_within = below;
   }

@@ -10,12 +10,14 @@ use Rattle.rn_assemble.specs.declared.resolving.context.Context.{Context}
 use Rattle.std.proofs.lemmas.Bool.{cases_eq, cases_lt}
 use Rattle.std.proofs.lemmas.List.{get_or_append_left, get_or-append_right}
 use Rattle.std.proofs.lemmas.List.Elements.{Contains-append_left, Contains-get_or, Contains-push, Contains-push_cases}
-use Rattle.std.proofs.lemmas.Option.{slice_get_within}
+use Rattle.std.proofs.lemmas.Option.{same_Some, slice_get_within}
+use Rattle.std.proofs.lemmas.Slice.Zip.{AllZip-long}
 use Rattle.rn_pattern.proofs.Ordered.Ascending.{each_append}
 use Rattle.rn_assemble.specs.Components.{NamedModule}
 use Rattle.rn_assemble.specs.declared.reading.contents.Contents.{Contents}
 use Rattle.rn_assemble.specs.declared.including.segments.Segment.{Segment}
 use Rattle.rn_assemble.specs.declared.including.segments.Segments.{Segments}
+use Rattle.rn_assemble.specs.declared.reading.named_modules.ModuleId.{ModuleId}
 use Rattle.rn_assemble.specs.inside.ContentsOf.{AreContents, IsContents, segment_begin, segment_end}
 use Rattle.rn_assemble.specs.inside.Bringing.{CanAdd}
 use Rattle.rn_assemble.specs.inside.Placing.{AddsSegment, IsFirstOf, NotesPlace, PushesAt}
@@ -23,9 +25,6 @@ use Rattle.rn_assemble.specs.inside.Segments.{AreSegments, HasNumber, HavePlaces
 
 -- an element by its place, in a list with one more
 module _ {X : Type 0} where
-  pub one_some : (x y : X) → Some x ≡ Some y → x ≡ y
-  one_some x y e = cc
-
   pub get_front : (xs ys : List X) (n : ℕ) (x : X) → slice_get xs n ≡ Some x → slice_get (xs ++ ys) n ≡ Some x
   get_front [] ys n x e = cc
   get_front (z ∷ xs) ys zero x e = e
@@ -36,7 +35,7 @@ module _ {X : Type 0} where
   get_last (x ∷ xs) y = get_last xs y
 
   get_cases : (xs : List X) (y : X) (n : ℕ) (x : X) → slice_get (xs ++ y ∷ []) n ≡ Some x → (slice_get xs n ≡ Some x) ⊎ ((n ≡ length xs) × (x ≡ y))
-  get_cases [] y zero x e = inr (refl, sym (one_some y x e))
+  get_cases [] y zero x e = inr (refl, sym (same_Some y x e))
   get_cases [] y (suc n) x e = cc
   get_cases (z ∷ xs) y zero x e = inl e
   get_cases (z ∷ xs) y (suc n) x e = elim (get_cases xs y n x e) [ inl h ↦ inl h | inr h ↦ inr (ap suc h.0, h.1) ]
@@ -59,12 +58,6 @@ zip_get R [] ys z i l = absurd (omega (arith, l))
 zip_get R (x ∷ xs) [] z i l = absurd z
 zip_get R (x ∷ xs) (y ∷ ys) z zero l = (x, y, refl, refl, z.0)
 zip_get R (x ∷ xs) (y ∷ ys) z (suc i) l = zip_get R xs ys z.1 i (omega (arith, l))
-
-pub zip_size : {X C : Type 0} (R : X → C → Type 0) (xs : List X) (cs : List C) → AllZip R xs cs → length xs ≡ length cs
-zip_size R [] [] z = refl
-zip_size R [] (c ∷ cs) z = absurd z
-zip_size R (x ∷ xs) [] z = absurd z
-zip_size R (x ∷ xs) (c ∷ cs) z = ap suc (zip_size R xs cs z.1)
 
 -- a number above all others behind them
 rising_push : (xs : List ℕ) (n : ℕ) → IsStrictlyIncreasing xs → ((k : ℕ) → Contains xs k → k < n) → IsStrictlyIncreasing (xs ++ n ∷ [])
@@ -89,7 +82,7 @@ module _ (old : List (Vec (Vec ℕ Global) Global)) (m j place : ℕ) where
   sizes_set : (contents : List Contents) (rows : List (Vec (Vec ℕ Global) Global)) (i : ℕ) (v w : Vec (Vec ℕ Global) Global) → slice_get rows i ≡ Some v → length w.items ≡ length v.items → HavePlaces contents rows → HavePlaces contents (slice_set rows i w)
   sizes_set contents [] i v w e s h = cc
   sizes_set [] (r ∷ rows) i v w e s h = absurd h
-  sizes_set (c ∷ contents) (r ∷ rows) zero v w e s h = (s ∙ ap (λ (x : Vec (Vec ℕ Global) Global). length x.items) (sym (one_some r v e)) ∙ h.0, h.1)
+  sizes_set (c ∷ contents) (r ∷ rows) zero v w e s h = (s ∙ ap (λ (x : Vec (Vec ℕ Global) Global). length x.items) (sym (same_Some r v e)) ∙ h.0, h.1)
   sizes_set (c ∷ contents) (r ∷ rows) (suc i) v w e s h = (h.0, sizes_set contents rows i v w e s h.1)
 
   pub noted_set : (v w : Vec (Vec ℕ Global) Global) → slice_get old m ≡ Some v → PushesAt v.items w.items j place → NotesPlace old (slice_set old m w) m j place
@@ -99,7 +92,7 @@ module _ (old : List (Vec (Vec ℕ Global) Global)) (m j place : ℕ) where
       record {
         sizes = λ contents k. sizes_set contents old m v w e h.size k;
         pushed = λ numbers k l.
-            let same : numbers ≡ v = one_some numbers v (sym k ∙ e) in
+            let same : numbers ≡ v = same_Some numbers v (sym k ∙ e) in
             in_row new m j w at ∙ h.pushed (subst (λ (x : Vec (Vec ℕ Global) Global). j < length x.items) same l) ∙ ap (λ l. l ++ place ∷ []) (sym (in_row old m j v e));
         others = λ a b ne. elim (cases_eq a m) [
           | inl s ↦
@@ -138,7 +131,7 @@ module _ (modules : List NamedModule) (x y : Segments) (m j : ℕ) (s : Segment)
   pushed : new_at m j ≡ old_at m j ++ length xs ∷ []
   pushed =
       let c = zip_get (IsContents modules) modules x.contents.now are.contents m module_there in
-      let r = zip_get (λ (d : Contents) (numbers : Vec (Vec ℕ Global) Global). length numbers.items ≡ suc (length d.includes.items)) x.contents.now x.places.items are.sizes m (omega (arith, module_there, zip_size (IsContents modules) modules x.contents.now are.contents)) in
+      let r = zip_get (λ (d : Contents) (numbers : Vec (Vec ℕ Global) Global). length numbers.items ≡ suc (length d.includes.items)) x.contents.now x.places.items are.sizes m (omega (arith, module_there, AllZip-long (IsContents modules) modules x.contents.now are.contents)) in
       noted.pushed r.1 r.3 (omega (arith, r.4, numbers_within r.0 r.2))
 
   which : (a b : ℕ) → ((a ≡ m) × (b ≡ j)) ⊎ ¬ ((a ≡ m) × (b ≡ j))
@@ -197,7 +190,7 @@ module _ (modules : List NamedModule) (x y : Segments) (m j : ℕ) (s : Segment)
       let there = slice_get_within xs p.place t p.is in
       let k = are.first p.place t p.is in
       let r = are.numbered m j p.place p.among in
-      let same : r.0 ≡ t = one_some r.0 t (sym r.1 ∙ p.is) in
+      let same : r.0 ≡ t = same_Some r.0 t (sym r.1 ∙ p.is) in
       let like = subst (HasNumber x.contents.now m j) same r.2 in
       record {
         before = omega (arith, p.first_is, k.before, there);
@@ -219,7 +212,7 @@ module _ (modules : List NamedModule) (x y : Segments) (m j : ℕ) (s : Segment)
   first_itself e = record {
     before = omega (arith, e);
     alike = λ f h.
-        let same : f ≡ s = one_some f s (sym h ∙ ap (slice_get grown) e ∙ get_last xs s) in
+        let same : f ≡ s = same_Some f s (sym h ∙ ap (slice_get grown) e ∙ get_last xs s) in
         (ap (λ (r : Segment). r.module.0) same, ap (λ (r : Segment). r.from) same, ap (λ (r : Segment). r.to) same, ap (λ (r : Segment). r.first) same, ap (λ (r : Segment). rc_str_bytes r.context.inherited.now) same);
   }
 
@@ -258,12 +251,12 @@ module _ (modules : List NamedModule) (x y : Segments) (m j : ℕ) (s : Segment)
   }
 
 -- the segment of that number of a module is added
-pub adds_segment : (modules : List NamedModule) (x y : Segments) (m j : ℕ) (context : Context) (from to first : ℕ) → AreSegments modules x → CanAdd modules x m j context from to → y.contents.now ≡ x.contents.now
-    → y.list.items ≡ x.list.items ++ record { «module» = m; context = context; from = from; to = to; first = first } ∷ [] → NotesPlace x.places.items y.places.items m j (length x.list.items)
-    → ((first ≡ length x.list.items) ⊎ IsFirstOf x m j (rc_str_bytes context.inherited.now) first) → AddsSegment modules x y m context from to
+pub adds_segment : (modules : List NamedModule) (x y : Segments) (m : ModuleId) (j : ℕ) (context : Context) (from to first : ℕ) → AreSegments modules x → CanAdd modules x m.0 j context from to → y.contents.now ≡ x.contents.now
+    → y.list.items ≡ x.list.items ++ record { «module» = m; context = context; from = from; to = to; first = first } ∷ [] → NotesPlace x.places.items y.places.items m.0 j (length x.list.items)
+    → ((first ≡ length x.list.items) ⊎ IsFirstOf x m.0 j (rc_str_bytes context.inherited.now) first) → AddsSegment modules x y m.0 context from to
 adds_segment modules x y m j context from to first are can contents list noted firsts =
     let s : Segment = record { «module» = m; context = context; from = from; to = to; first = first } in
-    let z = zip_get (IsContents modules) modules x.contents.now are.contents m can.within in
+    let z = zip_get (IsContents modules) modules x.contents.now are.contents m.0 can.within in
     let at = can.numbered z.1 z.3 in
     record {
       segment = s;
@@ -272,7 +265,7 @@ adds_segment modules x y m j context from to first are can contents list noted f
       context_is = refl;
       from_is = refl;
       to_is = refl;
-      are = segment_added modules x y m j s are contents list noted
+      are = segment_added modules x y m.0 j s are contents list noted
           (record { module_within = can.within; binds = can.binds; ordered = can.ordered; within = can.to_within })
           (record {
             module_is = refl;

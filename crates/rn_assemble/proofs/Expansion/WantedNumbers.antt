@@ -19,10 +19,9 @@ use Rattle.rn_assemble.specs.inside.Contained.{place_in}
 use Rattle.rn_assemble.specs.inside.ContentsOf.{name_at}
 use Rattle.rn_assemble.specs.inside.Inclusions.{IsLeastAmong, IsMissing}
 use Rattle.rn_assemble.specs.inside.Referred.{lesser_text}
-use Rattle.rn_assemble.specs.inside.Views.{module_names, modules_view, texts_of}
+use Rattle.rn_assemble.specs.inside.Views.{module_names, module_number, modules_view, texts_of}
 use Rattle.rn_assemble.specs.declared.reading.named_modules.NamedModule as code
 use Rattle.rn_assemble.specs.declared.reading.named_modules.ModuleId.{ModuleId}
-use Rattle.rn_assemble.specs.inside.Numbers.{module_number}
 use Rattle.rn_assemble.proofs.Referring.LeastUndefined.{no_text, texts_more}
 use Rattle.rn_assemble.proofs.Expansion.Inclusions.{not_missing}
 use Rattle.rn_assemble.proofs.Expansion.ModuleLookups.{none_named, place_name, place_within}

@@ -3,10 +3,9 @@ use Rattle.std.proofs.Common.{◌≡◌, ◌<◌, ℕ, Bool, true, false, ◌||�
 use Rattle.std.specs.Prelude.{bytes_eq}
 use Rattle.std.specs.List.{list_any}
 use Rattle.std.proofs.lemmas.Bool.{false≢true, cases_Bool}
-use Rattle.std.proofs.lemmas.Cmp.{nat_list_eq_equiv}
 use Rattle.std.proofs.lemmas.List.{get_or_default}
 use Rattle.std.proofs.lemmas.List.Elements.{filter-append}
-use Rattle.std.proofs.lemmas.Map.Views.{Contains-from_any, list_any-from_Contains}
+use Rattle.std.proofs.lemmas.Map.Views.{Contains-from_any}
 use Rattle.std.proofs.lemmas.Slice.Eq.{bytes_eq-Decides}
 use Rattle.rn_text.specs.Texts.{Text}
 use Rattle.rn_assemble.specs.Combine.{defined_names, first_of, of_key}
@@ -64,25 +63,6 @@ defined_known [] c x e h = absurd (false≢true h)
 defined_known (d ∷ cs) c x e h = elim (cases_Bool (has_key (name_key x) cs)) [
   | inl there ↦ ap (first_of d.key) (defined_known cs c x e there)
   | inr none ↦ ap (first_of d.key) (defined_new cs c x e none) ∙ first_again d.key x (defined_names cs) (or_other (same_key (name_key x) d.key) (has_key (name_key x) cs) h none)
-]
-
--- a name without a component is none of them
-none_at : (b : Bool) (c : Component) (rest : List Component) (r : Bool) → (b || r) ≡ false → (r ≡ false → rest ≡ []) → cond b (c ∷ rest) rest ≡ []
-none_at true c rest r e f = absurd (false≢true (sym e))
-none_at false c rest r e f = f e
-
-none_of_key : (k : Key) (cs : List Component) → has_key k cs ≡ false → of_key k cs ≡ []
-none_of_key k [] e = refl
-none_of_key k (c ∷ cs) e = none_at (same_key k c.key) c (of_key k cs) (has_key k cs) e (none_of_key k cs)
-
-not_among : (x : Text) (cs : List Component) → has_key (name_key x) cs ≡ false → list_any (bytes_eq x) (defined_names cs) ≡ false
-not_among x cs n = named x cs ∙ ap (λ ds. is_some (map (λ (c : Component). c.body) ds)) (none_of_key (name_key x) cs n)
-
--- a name that is one of them has a component
-pub defined_has : (x : Text) (cs : List Component) → Contains (defined_names cs) x → has_key (name_key x) cs ≡ true
-defined_has x cs c = elim (cases_Bool (has_key (name_key x) cs)) [
-  | inl t ↦ t
-  | inr none ↦ absurd (false≢true (sym (not_among x cs none) ∙ list_any-from_Contains {eq = bytes_eq} nat_list_eq_equiv x (defined_names cs) c))
 ]
 
 none_in : (cs : List Component) → is_some (map (λ (c : Component). c.body) cs) ≡ false → length cs ≡ 0

@@ -30,7 +30,7 @@ module _ (modules : List NamedModule) (x : Segments) (cs : List Component) (s : 
       let facts = (row_in modules k cs row x is s).written i w at in
       let brought = each_of (IsBrought modules x.contents.now x.list.items) x.brought.items b s.brought has in
       let own = brought.own facts.0 (ap (slice_get x.contents.now) (sym told.0) ∙ facts.1) in
-      let among = (b.number, slice_get_within facts.0.includes.items b.number own.0 own.1, get_or_from_slice_get facts.0.includes.items b.number own.0 own.0 own.1) in
+      let among : Contains facts.0.includes.items own.0 = (b.number, slice_get_within facts.0.includes.items b.number own.0 own.1, get_or_from_slice_get facts.0.includes.items b.number own.0 own.0 own.1) in
       (facts.0, own.0, facts.1, among, omega (arith, told.1, own.2), omega (arith, told.2, own.3))
     where
       each_of : (P : FollowedInclude → Type 0) (bs : List FollowedInclude) (y : FollowedInclude) → AllByRecursion P bs → Contains bs y → P y

@@ -1,9 +1,8 @@
 -- The numbers of names, and of keys.
-use Rattle.std.proofs.Common.{◌≡◌, ℕ, zero, suc, ◌-◌, ◌<◌, inl, inr, List, [], length, get_or, refl, sym, ap, ◌∙◌, subst, arith, Contains, Less, Equal, eqb}
+use Rattle.std.proofs.Common.{◌≡◌, ℕ, zero, suc, ◌-◌, ◌<◌, inl, inr, List, [], length, get_or, refl, sym, ap, ◌∙◌, subst, arith, Contains, Less, Equal}
 use Rattle.std.specs.Prelude.{Decides}
 use Rattle.std.specs.List.Sorted.{IsStrictlySortedBy}
-use Rattle.std.proofs.lemmas.Bool.{cases_eq, cases_lt, eq-eqb, eqb-true, false≢true}
-use Rattle.std.proofs.lemmas.Bool.Decides.{same_from_decides}
+use Rattle.std.proofs.lemmas.Bool.{cases_eq, cases_lt, false≢true}
 use Rattle.std.proofs.lemmas.List.{get_or_default}
 use Rattle.std.proofs.lemmas.Cmp.{nat_list_cmp_total, tied_itself}
 use Rattle.std.proofs.lemmas.Map.Keys.{Less-from_sorted}
@@ -65,11 +64,6 @@ same_at names s zero zero h l e = refl
 same_at names s zero (suc j) h l e = cc
 same_at names s (suc i) zero h l e = cc
 same_at names s (suc i) (suc j) h l e = same_number names s (get_or names i []) (suc i) (suc j) (number_of names i _ (omega arith) refl) (number_of names j _ (omega arith) (sym e))
-
--- keys are the same where their numbers are
-pub same_key_at : (names : List Text) → IsStrictlySortedBy text_cmp names → (k j : ℕ) → k < suc (length names) → j < suc (length names) → same_key (key_at names k) (key_at names j) ≡ eqb j k
-same_key_at names s k j h l = same_from_decides _ (eqb j k) (same_key-Decides (key_at names k) (key_at names j))
-    ((λ e. ap (key_at names) (sym (eqb-true j k e))), (λ e. eq-eqb j k (sym (same_at names s k j h l e))))
 
 -- a text that has a number is one of the names
 pub numbered_name : (names : List Text) (x : Text) (n : ℕ) → IsNameNumber names x n → Contains names x

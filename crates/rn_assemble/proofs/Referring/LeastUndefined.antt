@@ -108,7 +108,7 @@ module _ (names : List Text) (marks : List Bool) where
 
 module _ (names texts : List Text) (numbers : List ℕ) (x : Text) (a : AreNumbers names texts numbers) where
   number_more : (k : ℕ) → IsNameNumber names x k → AreNumbers names (texts ++ x ∷ []) (numbers ++ k ∷ [])
-  number_more k.0 i = record {
+  number_more k i = record {
     only = λ m c. ⊎_elim (λ h. let y = a.only m h in (y.0, Contains-append_left texts (x ∷ []) y.0 y.1, y.2)) (λ e. (x, Contains-push texts x, subst (IsNameNumber names x) e i)) (Contains-push_cases numbers k m c);
     all = λ y c n. ⊎_elim (λ h. let m = a.all y h n in (m.0, m.1, Contains-append_left numbers (k ∷ []) m.0 m.2)) (λ e. (k, subst (λ z. IsNameNumber names z k) e i, Contains-push numbers k)) (Contains-push_cases texts x y c);
   }

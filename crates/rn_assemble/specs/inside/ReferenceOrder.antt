@@ -12,7 +12,7 @@ use Rattle.rn_assemble.specs.declared.by_key.settling_order.KeyOrder.TheVariants
 use Rattle.rn_assemble.specs.Combine.{defined_names, joined_grammar, joined_pattern}
 use Rattle.rn_assemble.specs.Components.{Component, name_key}
 use Rattle.rn_assemble.specs.inside.Keyed.{IsNameNumber, key_at}
-use Rattle.rn_assemble.specs.inside.Numbers.{key_numbers}
+use Rattle.rn_assemble.specs.inside.Views.{key_numbers}
 use Rattle.rn_assemble.specs.inside.Referred.{IsLeastRecursive}
 use Rattle.rn_pattern.specs.Graph.{Reached, is_marked, row}
 

@@ -1,18 +1,32 @@
 -- What values of the code stand for.
-use Rattle.std.specs.Prelude.{◌≡◌, List, [], ◌∷◌, ◌++◌, map, Vec}
+use Rattle.std.specs.Prelude.{◌≡◌, ℕ, List, [], ◌∷◌, ◌++◌, Option, map, option_map, Vec}
 use Rattle.std.specs.declared.alloc.Global.{Global}
 use Rattle.std.specs.List.Sorted.{IsStrictlySortedBy}
 use Rattle.rn_text.specs.Texts.{Text, text_cmp}
 use Rattle.rn_syntax.specs.View.{declaration_view, items_view, module_view, prefix_view}
 use Rattle.rn_syntax.specs.declared.tree.Item.{Item}
+use Rattle.rn_assemble.specs.declared.reading.named_modules.ModuleId.{ModuleId}
 use Rattle.rn_assemble.specs.declared.reading.named_modules.NamedModule as code_module
+use Rattle.rn_assemble.specs.declared.reading.keys.KeyId.{KeyId}
 use Rattle.rn_assemble.specs.declared.reading.keys.Keys.{Keys}
 use Rattle.rn_assemble.specs.declared.reading.contents.Contents.{Contents}
 use Rattle.rn_assemble.specs.declared.reading.contents.Include.{Include}
 use Rattle.rn_assemble.specs.Components.{NamedModule}
 pub use Rattle.rn_assemble.specs.inside.Keyed.{texts_of}
 use Rattle.rn_assemble.specs.inside.Contained.{Inclusion}
-use Rattle.rn_assemble.specs.inside.Numbers.{module_number}
+
+-- the numbers of modules and of keys
+abbrev pub module_number : Option ModuleId → Option ℕ
+module_number m = option_map (λ (i : ModuleId). i.0) m
+
+abbrev pub module_numbers : List ModuleId → List ℕ
+module_numbers ms = map (λ (i : ModuleId). i.0) ms
+
+abbrev pub key_number : Option KeyId → Option ℕ
+key_number k = option_map (λ (i : KeyId). i.0) k
+
+abbrev pub key_numbers : List KeyId → List ℕ
+key_numbers ks = map (λ (i : KeyId). i.0) ks
 
 -- the names of the keys, in the order of their numbers
 abbrev pub names_of : Keys → List Text

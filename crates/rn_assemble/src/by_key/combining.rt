@@ -14,14 +14,13 @@ ghost use Rattle.rn_assemble.specs.Resolve.{resolved_pattern};
 ghost use Rattle.rn_assemble.specs.inside.ContextBindings.{InContext};
 ghost use Rattle.rn_assemble.specs.inside.JoinedDefinitions.{AreDefinitions};
 ghost use Rattle.rn_assemble.specs.inside.Joining.{CanBeJoined, IsJoinedGrammar, IsMisnamed};
-ghost use Rattle.rn_assemble.specs.inside.Numbers.{key_number, key_numbers};
 ghost use Rattle.rn_assemble.specs.inside.Patterns.{AddsResolved, AreResolved, IsJoined, IsJoinedTo, IsResolved, lesser, numbers_from};
 ghost use Rattle.rn_assemble.specs.inside.Pieces.{IsKnownRow, IsOnlyComponent, IsPiece, OfKeys, OfPieces, OfRow};
 ghost use Rattle.rn_assemble.specs.inside.ReferenceOrder.{AreDefinedKeys};
 ghost use Rattle.rn_assemble.specs.inside.Rows.{AreNameRows, AreRows};
 ghost use Rattle.rn_assemble.specs.inside.Segments.{AreSegmentsOf};
 ghost use Rattle.rn_assemble.specs.inside.Tied.{AreTied};
-ghost use Rattle.rn_assemble.specs.inside.Views.{names_of};
+ghost use Rattle.rn_assemble.specs.inside.Views.{key_number, key_numbers, names_of};
 
 use crate::by_key::checks::uses;
 use crate::grammar::{Definitions, Grammar};
@@ -31,9 +30,10 @@ use crate::reading::key_rows::{KeyRows, WrittenComponent};
 use crate::reading::keys::{KeyId, Keys, START};
 use crate::refusal::Refusal;
 use crate::resolving::context::Context;
-use crate::resolving::nodes::{choice, interleave, share_pattern};
+use crate::resolving::nodes::{choice, interleave};
 use crate::resolving::resolution::resolve_pattern;
 use indexmap::IndexMap;
+use rn_pattern::boxes::new_shared;
 use rn_pattern::name_classes::keeps_name_rules;
 use rn_pattern::{Pattern, Seed};
 use rn_syntax::Method;
@@ -116,12 +116,8 @@ fn definitions(
         let row = rows.take(alloc, *key);
         match join_key(alloc, row.as_slice(), segments)? {
             Some(joined) => {
-                let Joined {
-                    pattern,
-                    firsts: found,
-                } = joined;
-                firsts.push(found)?;
-                define(alloc, &mut defs, keys.name(*key), pattern)?;
+                firsts.push(joined.firsts)?;
+                define(alloc, &mut defs, keys.name(*key), joined.pattern)?;
             }
             None => least = Some(lesser(least, *key)),
         }
@@ -292,8 +288,7 @@ fn repeat(members: &mut Vec<Rc<Pattern>>, begin: usize, count: usize) -> Result<
     Ok(())
 }
 
-/// Adds the patterns of the components with their names resolved. Answers whether all keep the restrictions on name
-/// classes.
+/// Adds the components' patterns with their names resolved. Answers whether all keep the restrictions on name classes.
 fn push_resolved(
     alloc: Global,
     context: Context<'_, '_>,
@@ -307,7 +302,7 @@ fn push_resolved(
         let Some(pattern) = resolve(alloc, context, component)? else {
             return Ok(false);
         };
-        members.push(share_pattern(alloc, pattern)?)?;
+        members.push(new_shared(alloc, pattern)?)?;
     }
     Ok(true)
 }

@@ -12,11 +12,10 @@ ghost use Rattle.rn_assemble.specs.Components.{Component};
 ghost use Rattle.rn_assemble.specs.Least.{IsLeast};
 ghost use Rattle.rn_assemble.specs.declared.including.pieces.Piece as specs_piece;
 ghost use Rattle.rn_assemble.specs.declared.reading.keys.KeyId.{KeyId};
-ghost use Rattle.rn_assemble.specs.inside.Numbers.{key_numbers};
 ghost use Rattle.rn_assemble.specs.inside.Pieces.{AreKnownBy, OfKeys};
 ghost use Rattle.rn_assemble.specs.inside.ReferenceOrder.{AreDefinedKeys};
 ghost use Rattle.rn_assemble.specs.inside.Referred.{AreAllReferences, AreLiveMarks, AreMarksOf, AreNumbers, IsLeastUndefined, KeepsLeast, all_references, lesser_text, marked_references, names_within, number_within, reference_view, references};
-ghost use Rattle.rn_assemble.specs.inside.Views.{names_of};
+ghost use Rattle.rn_assemble.specs.inside.Views.{key_numbers, names_of};
 
 use crate::including::pieces::Piece;
 use crate::including::segments::Segments;
@@ -110,8 +109,7 @@ fn undefined_name(alloc: Global, name: &str) -> Refusal
     }
 }
 
-/// Puts the references of the components of these pieces into `found`, in the place of what it held; those of each
-/// component once.
+/// Puts the references of these pieces' components into `found`, in the place of what it held; of each component once.
 fn references_in<'s>(
     alloc: Global,
     row: &[WrittenComponent<'s>],
@@ -237,8 +235,7 @@ fn row_of<'s>(
 
 /// Whether the key of a name, if the name has one, has a mark.
 pub(crate) fn has_mark(marks: &[bool], key: Option<KeyId>) -> bool
-    ensures { result ≡ option_map_or (λ (k : KeyId). slice_index_or marks.now k.0 false)
-        key false }
+    ensures { result ≡ option_map_or (λ (k : KeyId). slice_index_or marks.now k.0 false) key false }
 {
     match key {
         Some(key) => marks.get(key.0).copied().unwrap_or(false),

@@ -6,7 +6,6 @@ ghost use Rattle.rn_pattern.specs.Graph.{IsGraph, rows_of};
 ghost use Rattle.rn_pattern.specs.Ranks.{rank_of};
 ghost use Rattle.rn_assemble.specs.Components.{Component, NamedModule};
 ghost use Rattle.rn_assemble.specs.declared.reading.keys.KeyId.{KeyId};
-ghost use Rattle.rn_assemble.specs.inside.Numbers.{key_numbers};
 ghost use Rattle.rn_assemble.specs.inside.FirstPlaces.{AreFirstPlaces};
 ghost use Rattle.rn_assemble.specs.inside.Pieces.{AreKnown, OfRows};
 ghost use Rattle.rn_assemble.specs.inside.Rows.{AreRows};
@@ -16,7 +15,7 @@ ghost use Rattle.rn_assemble.specs.inside.Referred.{AreAllReferences};
 ghost use Rattle.std.specs.List.{AllByRecursion, IsDistinct};
 ghost use Rattle.rn_assemble.specs.Combine.{joined_grammar};
 ghost use Rattle.rn_assemble.specs.SettlingOrder.{IsSettlingOrder};
-ghost use Rattle.rn_assemble.specs.inside.Views.{names_of};
+ghost use Rattle.rn_assemble.specs.inside.Views.{key_numbers, names_of};
 
 use crate::including::segments::Segments;
 use crate::reading::key_rows::KeyRows;

@@ -8,8 +8,7 @@ ghost use Rattle.rn_assemble.specs.inside.Included.{AreIncluded};
 ghost use Rattle.rn_assemble.specs.inside.Inclusions.{AreInclusions, IsLeastAmong, IsMissing, entries};
 ghost use Rattle.rn_assemble.specs.inside.Instances.{instances_of};
 ghost use Rattle.rn_assemble.specs.inside.Checked.{IsFirstOfModules};
-ghost use Rattle.rn_assemble.specs.inside.Numbers.{module_number, module_numbers};
-ghost use Rattle.rn_assemble.specs.inside.Views.{AreInOrder, modules_view, texts_of};
+ghost use Rattle.rn_assemble.specs.inside.Views.{AreInOrder, module_number, module_numbers, modules_view, texts_of};
 
 use crate::by_key::references::lesser_name;
 use crate::including::instances::{INSTANCE_LIMIT, instances_up_to};
@@ -64,8 +63,7 @@ pub(crate) fn module_named(modules: &[NamedModule<'_>], name: &str) -> Option<Mo
 /// the least literal of such an include.
 fn inclusions(alloc: Global, modules: &[NamedModule<'_>]) -> Result<Rows, Refusal>
     requires { AreInOrder modules.now }
-    ensures { MatchResult result
-        (λ rows. AreInclusions (modules_view modules.now) (rows_of rows))
+    ensures { MatchResult result (λ rows. AreInclusions (modules_view modules.now) (rows_of rows))
         (IsFirstOfModules (modules_view modules.now)) }
 {
     let mut rows = Rows::new(alloc);
@@ -163,8 +161,7 @@ fn has_too_many_instances(rows: &Rows, roots: &[ModuleId]) -> bool
     requires graph { IsGraph (rows_of rows.now) }
     requires within { AllBelow (length (rows_of rows.now)) (module_numbers roots.now) }
     ensures { (depth : ℕ) → INSTANCE_LIMIT < depth
-        → (IsTrue result
-        ↔ (INSTANCE_LIMIT
+        → (IsTrue result ↔ (INSTANCE_LIMIT
         < sum_by (instances_of depth (rows_of rows.now)) (module_numbers roots.now))) }
 {
     let mut count = 0;

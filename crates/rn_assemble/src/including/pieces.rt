@@ -74,8 +74,7 @@ impl Segments<'_, '_, '_> {
         Ok(())
     }
 
-    /// Adds the pieces of the components from an index on that are of one module, with no include between them. Answers
-    /// the index behind them.
+    /// Adds the pieces of a module's components from an index on that no include parts. Answers the index behind them.
     fn push_run(
         &self,
         row: &[WrittenComponent<'_>],
@@ -156,8 +155,7 @@ impl Segments<'_, '_, '_> {
         has_marked
     }
 
-    /// The least module with an include that overrides the key and brings nothing of it in; `pieces` has all pieces of
-    /// the key.
+    /// The least module with an include that overrides the key and brings nothing of it in, where these are all its pieces.
     pub fn least_lacking(&self, row: &[WrittenComponent<'_>], pieces: &[Piece]) -> Option<ModuleId>
         requires known { IsKnownRow row.now self.now }
         requires all { AreAllPieces self.now.list.items row.now pieces.now }

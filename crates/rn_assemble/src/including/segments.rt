@@ -7,10 +7,9 @@ ghost use Rattle.rn_assemble.specs.Components as specs;
 ghost use Rattle.rn_assemble.specs.inside.Bringing.{Brings, CanAdd, CanBring, CanInclude, InclusionLacks, IsLackIn, OfRoots, brought_in, own_components};
 ghost use Rattle.rn_assemble.specs.inside.ContentsOf.{name_at, written_at};
 ghost use Rattle.rn_assemble.specs.inside.Lacking.{LacksFrom, LacksWithin};
-ghost use Rattle.rn_assemble.specs.inside.Numbers.{module_numbers};
 ghost use Rattle.rn_assemble.specs.inside.Placing.{AddsSegment, IsFirstOf, NotesPlace, PushesAt};
 ghost use Rattle.rn_assemble.specs.inside.Segments.{AreSegments, AreSegmentsOf, HavePlaces, places_at, places_in};
-ghost use Rattle.rn_assemble.specs.inside.Views.{inclusion_view};
+ghost use Rattle.rn_assemble.specs.inside.Views.{inclusion_view, module_numbers};
 
 use crate::including::instances::INSTANCE_LIMIT;
 use crate::reading::contents::{Contents, Include};
@@ -151,10 +150,8 @@ impl<'c, 't, 's> Segments<'c, 't, 's> {
         depth: usize,
     ) -> Result<(), AllocError>
         ensures { (modules : List specs.NamedModule) (ds : List Declaration)
-            → CanBring modules self.old
-            → CanInclude modules self.old.contents.now «module».0 number context.entry
-            include.now ds
-            → IfOk result (λ _. Brings modules self.old self.new
+            → CanBring modules self.old → CanInclude modules self.old.contents.now «module».0
+            number context.entry include.now ds → IfOk result (λ _. Brings modules self.old self.new
             (specs.without_overridden (brought_in depth modules
             (rc_str_bytes context.entry.inherited.now) ds (inclusion_view include.now))
             (own_components modules «module».0 (rc_str_bytes context.entry.inherited.now) ds

@@ -9,9 +9,8 @@ ghost use Rattle.rn_assemble.specs.declared.reading.named_modules.NamedModule as
 ghost use Rattle.rn_assemble.specs.inside.Contained.{item_inclusions, inclusions, item_written_components, written_components};
 ghost use Rattle.rn_assemble.specs.inside.ContentsOf.{AreApart, AreContents, HasOrderedIncludes, IsContents, IsSegmentOf, segment_end};
 ghost use Rattle.rn_assemble.specs.inside.Keyed.{AreAmong, AreNames, defines, item_defines, key_at};
-ghost use Rattle.rn_assemble.specs.inside.Numbers.{module_number};
 ghost use Rattle.rn_assemble.specs.inside.Rows.{AddsRows, AreRows, placed_from};
-ghost use Rattle.rn_assemble.specs.inside.Views.{AreInOrder, AreNamed, AddsIncludes, module_with, names_of, with_items};
+ghost use Rattle.rn_assemble.specs.inside.Views.{AddsIncludes, AreInOrder, AreNamed, module_number, module_with, names_of, with_items};
 
 use crate::including::inclusion::module_named;
 use crate::reading::key_rows::{KeyRows, WrittenComponent};
@@ -22,8 +21,7 @@ use crate::resolving::declared_uris::DeclaredUris;
 use rn_syntax::{Item, Method, Pat, Prefix};
 use std::alloc::{AllocError, Global};
 
-/// An include: the module that it names, if there is one, and its own components as numbers among those of the including
-/// module.
+/// An include: the module that it names, if there is one, and its own components as numbers among those of its module.
 #[derive(Clone, Copy)]
 pub(crate) struct Include<'s> {
     pub module: Option<ModuleId>,
@@ -41,8 +39,7 @@ pub(crate) struct Contents<'t, 's> {
 }
 
 impl Contents<'_, '_> {
-    /// How many includes come before the component of that number. So it is the number of the segment that has the
-    /// component.
+    /// How many includes come before the component of that number. So it is the number of the component's segment.
     pub fn segment_of(&self, number: usize) -> usize
         requires { HasOrderedIncludes self.now }
         ensures { IsSegmentOf self.now number result }

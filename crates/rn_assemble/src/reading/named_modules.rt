@@ -30,8 +30,7 @@ pub(crate) struct NamedModule<'a> {
 }
 
 /// The effective modules, in the order of their names. Or the first refusal of the set, where that is a conflict or the
-/// first fault of a text: the fault of the least name whose module has one. One module's tokens take the memory of those
-/// before.
+/// first fault of a text: the fault of the least name whose module has one. Tokens take the memory of those before.
 pub(crate) fn read_modules<'a>(
     alloc: Global,
     set: &'a ModuleSet,

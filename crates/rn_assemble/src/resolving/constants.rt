@@ -12,8 +12,7 @@ use rn_syntax::{XML_URI, XSD_URI};
 use std::alloc::{AllocError, Global};
 use std::rc::{Rc, RcStr};
 
-/// The URIs that names and types have without a declaration, and the patterns `empty` and `text`, made once for a set
-/// and shared.
+/// The URIs that names and types have without a declaration, and the patterns `empty` and `text`. All of a set share them.
 #[derive(Drop)]
 pub(crate) struct Constants {
     /// No namespace, and the library of `string` and `token`.

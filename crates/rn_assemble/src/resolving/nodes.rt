@@ -1,5 +1,5 @@
 // The nodes of resolved patterns.
-ghost use Rattle.std.specs.Prelude.{◌≡◌, string_bytes, IfOk, MatchOption};
+ghost use Rattle.std.specs.Prelude.{◌≡◌, IfOk, MatchOption};
 ghost use Rattle.std.specs.Rc.{rc_str_bytes};
 ghost use Rattle.rn_pattern.specs.Opened.{pair};
 ghost use Rattle.rn_pattern.specs.Tree as tree;
@@ -11,20 +11,6 @@ use rn_pattern::{Data, Pattern, SmallString, Value};
 use std::alloc::{AllocError, Global};
 use std::rc::{Rc, RcStr};
 
-/// A copy of the text, in memory of its own.
-pub(crate) fn copy_text(alloc: Global, text: &str) -> Result<String, AllocError>
-    ensures { IfOk result (λ s. string_bytes s ≡ text.now) }
-{
-    String::from_str(alloc, text)
-}
-
-/// The pattern, to be shared.
-pub(crate) fn share_pattern(alloc: Global, pattern: Pattern) -> Result<Rc<Pattern>, AllocError>
-    ensures { IfOk result (λ p. p.value ≡ pattern) }
-{
-    new_shared(alloc, pattern)
-}
-
 /// A value of a datatype: the URI of its library, its name there, and the value's text.
 pub(crate) fn typed_value(
     alloc: Global,
@@ -35,18 +21,12 @@ pub(crate) fn typed_value(
     ensures { IfOk result (λ p. pattern_view p
         ≡ tree.value (rc_str_bytes library.now) type_name.now text.now) }
 {
-    let library = library.clone()?;
-    let type_name = copy_text(alloc, type_name)?;
-    let text = copy_text(alloc, text)?;
-    let value = Box::new(
-        alloc,
-        Value {
-            library,
-            type_name,
-            text,
-        },
-    )?;
-    Ok(Pattern::Value(value))
+    let value = Value {
+        library: library.clone()?,
+        type_name: String::from_str(alloc, type_name)?,
+        text: String::from_str(alloc, text)?,
+    };
+    Ok(Pattern::Value(Box::new(alloc, value)?))
 }
 
 /// A datatype with its parameters, and what is excepted.
@@ -64,17 +44,12 @@ pub(crate) fn typed_datum(
         (parameters_view params.items)
         (boxed_view e))) }
 {
-    let library = library.clone()?;
-    let type_name = copy_text(alloc, type_name)?;
-    let data = Box::new(
-        alloc,
-        Data {
-            library,
-            type_name,
-            params,
-        },
-    )?;
-    Ok(Pattern::Datum(data, except))
+    let data = Data {
+        library: library.clone()?,
+        type_name: String::from_str(alloc, type_name)?,
+        params,
+    };
+    Ok(Pattern::Datum(Box::new(alloc, data)?, except))
 }
 
 pub(crate) fn list(content: Box<Pattern>) -> Pattern

@@ -14,8 +14,8 @@ ghost use Rattle.rn_assemble.specs.Resolve as resolve;
 
 use crate::resolving::context::Context;
 use crate::resolving::nodes::{
-    choice, copy_text, group, interleave, list, mixed_pattern, new_member, one_or_more,
-    optional_pattern, reference, typed_datum, typed_value,
+    choice, group, interleave, list, mixed_pattern, new_member, one_or_more, optional_pattern,
+    reference, typed_datum, typed_value,
 };
 use rn_pattern::boxes::new_box;
 use rn_pattern::{NameClass, Named, Pattern, SmallString};
@@ -169,8 +169,8 @@ fn params(alloc: Global, given: &[Param<'_>]) -> Result<Vec<(String, String)>, A
     let mut params = Vec::with_capacity(alloc, given.len())?;
     for param in given {
         params.push((
-            copy_text(alloc, param.name)?,
-            copy_text(alloc, param.text.as_str())?,
+            String::from_str(alloc, param.name)?,
+            String::from_str(alloc, param.text.as_str())?,
         ))?;
     }
     Ok(params)

@@ -6,9 +6,8 @@ use Rattle.rn_assemble.specs.Refusal.{Lacks}
 use Rattle.rn_assemble.specs.inside.Checked.{AreExpanded}
 use Rattle.rn_assemble.specs.inside.Methods.{CanCombine}
 use Rattle.rn_assemble.specs.declared.reading.keys.KeyId.{KeyId}
-use Rattle.rn_assemble.specs.inside.Numbers.{key_numbers}
 use Rattle.rn_assemble.specs.inside.ReferenceOrder.{AreDefinedKeys, IsReferenceOrder}
-use Rattle.rn_assemble.specs.inside.Views.{AreNamed, names_of}
+use Rattle.rn_assemble.specs.inside.Views.{AreNamed, key_numbers, names_of}
 use Rattle.rn_assemble.proofs.Answering.FirstRefusal.{lacking_first, uncombined_first, unsound_first}
 use Rattle.rn_assemble.proofs.Answering.CheckedModules.{brought_within, can_be_joined, joined_or_first, passed_includes, passed_methods, passed_overrides}
 use Rattle.rn_assemble.proofs.assembly.join_keys.Goals as goal

@@ -1,4 +1,4 @@
-use Rattle.std.proofs.Common.{◌≡◌, ℕ, List, sym, ap, ◌∙◌, subst}
+use Rattle.std.proofs.Common.{◌≡◌, List, sym, ap, ◌∙◌, subst}
 use Rattle.rn_assemble.specs.declared.reading.contents.Contents.{Contents}
 use Rattle.rn_assemble.specs.declared.reading.named_modules.NamedModule.{NamedModule}
 use Rattle.rn_assemble.specs.inside.Bringing.{CanList}
@@ -6,9 +6,8 @@ use Rattle.rn_assemble.specs.inside.Checked.{AreExpanded}
 use Rattle.rn_assemble.specs.inside.ContentsOf.{AreContents}
 use Rattle.rn_assemble.specs.inside.Included.{AreIncluded}
 use Rattle.rn_assemble.specs.inside.Rows.{AreRows}
-use Rattle.rn_assemble.specs.inside.Views.{AreNamed, module_names, modules_view, names_of, with_items}
+use Rattle.rn_assemble.specs.inside.Views.{AreNamed, module_names, module_numbers, modules_view, names_of, with_items}
 use Rattle.rn_assemble.specs.declared.reading.named_modules.ModuleId.{ModuleId}
-use Rattle.rn_assemble.specs.inside.Numbers.{module_numbers}
 use Rattle.rn_assemble.proofs.Answering.CheckedModules.{expanded}
 use Rattle.rn_assemble.proofs.Expansion.WantedNumbers.{names_rise, names_seen}
 use Rattle.rn_assemble.proofs.assembly.join_modules.Goals as goal

@@ -13,11 +13,10 @@ use Rattle.rn_assemble.specs.Refusal.{BreaksNameRules}
 use Rattle.rn_assemble.specs.declared.reading.key_rows.WrittenComponent as code
 use Rattle.rn_assemble.specs.declared.reading.keys.KeyId.{KeyId}
 use Rattle.rn_assemble.specs.inside.Keyed.{key_at}
-use Rattle.rn_assemble.specs.inside.Numbers.{key_number, key_numbers}
 use Rattle.rn_assemble.specs.inside.Patterns.{IsJoined, lesser}
 use Rattle.rn_assemble.specs.inside.Rows.{IsRowOf, KeepsRowsBut, row_at}
 use Rattle.rn_assemble.specs.inside.Tied.{firsts_of}
-use Rattle.rn_assemble.specs.inside.Views.{names_of}
+use Rattle.rn_assemble.specs.inside.Views.{key_number, key_numbers, names_of}
 use Rattle.rn_assemble.proofs.Joining.KeyedDefinitions.{Defining, defining_ends, defining_more, defining_noted, key_above, key_name, key_within, noted_least, row_left}
 use Rattle.rn_assemble.proofs.by_key.combining.definitions.Goals as goal
 use Rattle.rn_assemble.proofs.by_key.combining.definitions.Goals.{in-Some+in_ok-push-in-Some+in_ok-define-in-Some, in-None}
@@ -34,12 +33,11 @@ pub join_key-requires : goal.join_key-requires
 join_key-requires c =
     let (ms, cs, o, r, h, d) = c.requires in
     let names = names_of c.args.keys.now in
-    let ids = c.args.defined.now in
-    let keys = key_numbers ids in
+    let keys = key_numbers c.args.defined.now in
     let now = c.loop-key.rows.rows.items in
     let i = c.loop-key.key-index in
-    let there : i < length keys = omega (arith, c.loop-key-test.true, length-map ids (λ (k : KeyId). k.0)) in
-    let is = get_or-map (λ (k : KeyId). k.0) ids i (record { 0 = 0 }) 0 c.loop-key-test.true in
+    let there : i < length keys = omega (arith, c.loop-key-test.true, length-map c.args.defined.now (λ (k : KeyId). k.0)) in
+    let is = get_or-map (λ (k : KeyId). k.0) c.args.defined.now i (record { 0 = 0 }) 0 c.loop-key-test.true in
     let key = key_at names (get_or keys i 0) in
     let old = c.loop-key.invariant ms cs o r h d in
     record {
@@ -54,8 +52,7 @@ join_key-requires c =
 pub loop-key-preserved : goal.loop-key-preserved
 loop-key-preserved c = λ ms cs o r h d.
     let names = names_of c.args.keys.now in
-    let ids = c.args.defined.now in
-    let keys = key_numbers ids in
+    let keys = key_numbers c.args.defined.now in
     let first = c.args.rows.now.rows.items in
     let now = c.loop-key.rows.rows.items in
     let then = c.take-row.new.self.rows.items in
@@ -63,8 +60,8 @@ loop-key-preserved c = λ ms cs o r h d.
     let ds = definitions_view c.loop-key.defs.entries in
     let rows = firsts_of c.loop-key.firsts.items in
     let i = c.loop-key.key-index in
-    let l : i < length keys = omega (arith, c.loop-key-test.true, length-map ids (λ (k : KeyId). k.0)) in
-    let is = get_or-map (λ (k : KeyId). k.0) ids i (record { 0 = 0 }) 0 c.loop-key-test.true in
+    let l : i < length keys = omega (arith, c.loop-key-test.true, length-map c.args.defined.now (λ (k : KeyId). k.0)) in
+    let is = get_or-map (λ (k : KeyId). k.0) c.args.defined.now i (record { 0 = 0 }) 0 c.loop-key-test.true in
     let others = subst (λ n. KeepsRowsBut n now then) (sym is) c.take-row.ensures.others in
     let key = key_at names (get_or keys i 0) in
     let old = c.loop-key.invariant ms cs o r h d in
@@ -88,24 +85,22 @@ loop-key-preserved c = λ ms cs o r h d.
 pub returns-in_ok-key-in-Some-least : goal.returns-in_ok-key-in-Some-least
 returns-in_ok-key-in-Some-least c = λ ms cs o r h d keeps.
     let names = names_of c.args.keys.now in
-    let ids = c.args.defined.now in
-    let keys = key_numbers ids in
+    let keys = key_numbers c.args.defined.now in
     let first = c.args.rows.now.rows.items in
     let now = c.loop-key.rows.rows.items in
     let ds = definitions_view c.loop-key.defs.entries in
     let firsts = c.loop-key.firsts.items in
     let i = c.loop-key.key-index in
     let n = c.in-Some-least.key.0 in
-    let past : length keys ≤ i = omega (arith, c.loop-key-test.false, length-map ids (λ (k : KeyId). k.0)) in
+    let past : length keys ≤ i = omega (arith, c.loop-key-test.false, length-map c.args.defined.now (λ (k : KeyId). k.0)) in
     let end = subst (λ (m : Option KeyId). Defining names cs keys first now (key_number m) ds (firsts_of firsts) i) c.in-Some-least.is (c.loop-key.invariant ms cs o r h d) in
     subst (IsLeast key_cmp (BreaksNameRules cs)) (sym (c.in_ok-key-in-Some-least.ensures (omega (arith, end.breaks.0)))) (noted_least names cs o keys d keeps first now ds firsts i past n end)
 
 pub returns-in-None-least : goal.returns-in-None-least
 returns-in-None-least c = λ ms cs o r h d keeps.
     let names = names_of c.args.keys.now in
-    let ids = c.args.defined.now in
-    let keys = key_numbers ids in
+    let keys = key_numbers c.args.defined.now in
     let ds = definitions_view c.loop-key.defs.entries in
-    let past : length keys ≤ c.loop-key.key-index = omega (arith, c.loop-key-test.false, length-map ids (λ (k : KeyId). k.0)) in
+    let past : length keys ≤ c.loop-key.key-index = omega (arith, c.loop-key-test.false, length-map c.args.defined.now (λ (k : KeyId). k.0)) in
     defining_ends names cs o keys d keeps c.args.rows.now.rows.items c.loop-key.rows.rows.items ds c.loop-key.firsts.items c.loop-key.key-index past
     (key_number c.loop-key.least) c.loop-key.defs.entries (c.loop-key.invariant ms cs o r h d) (ap key_number c.in-None-least.is) refl

@@ -8,8 +8,7 @@ use Rattle.rn_assemble.specs.inside.ReferenceOrder.{AreDefinedKeys}
 use Rattle.rn_assemble.specs.inside.Rows.{AreNameRows}
 use Rattle.rn_assemble.specs.inside.Segments.{AreSegmentsOf}
 use Rattle.rn_assemble.specs.inside.Tied.{firsts_of}
-use Rattle.rn_assemble.specs.inside.Views.{names_of}
-use Rattle.rn_assemble.specs.inside.Numbers.{key_number, key_numbers}
+use Rattle.rn_assemble.specs.inside.Views.{key_number, key_numbers, names_of}
 use Rattle.rn_assemble.proofs.Joining.KeyedDefinitions.{Defining}
 use Rattle.rn_assemble.proofs.by_key.combining.definitions.Given as goal
 

@@ -13,8 +13,7 @@ use Rattle.rn_assemble.specs.inside.Joining.{IsJoinedGrammar, IsMisnamed}
 use Rattle.rn_assemble.specs.inside.Patterns.{IsJoined}
 use Rattle.rn_assemble.specs.inside.Rows.{IsRowOf}
 use Rattle.rn_assemble.specs.inside.Tied.{AreTied}
-use Rattle.rn_assemble.specs.inside.Views.{names_of}
-use Rattle.rn_assemble.specs.inside.Numbers.{key_numbers}
+use Rattle.rn_assemble.specs.inside.Views.{key_numbers, names_of}
 use Rattle.rn_assemble.proofs.Answering.RefusedResults.{refused_at}
 use Rattle.rn_assemble.proofs.Joining.KeyedDefinitions.{least_broken, name_rows}
 use Rattle.rn_assemble.proofs.by_key.combining.joined_grammar.Goals as goal

@@ -2,7 +2,7 @@
 use Rattle.std.proofs.lemmas.List.{get_or-map, length-map, take_all}
 use Rattle.std.proofs.Common.{◌+◌, take, sym, ap, subst, arith, ◌<◌, length, set, true}
 use Rattle.rn_assemble.specs.declared.reading.keys.KeyId.{KeyId}
-use Rattle.rn_assemble.specs.inside.Numbers.{key_numbers}
+use Rattle.rn_assemble.specs.inside.Views.{key_numbers}
 use Rattle.rn_assemble.specs.inside.Referred.{AreMarksOf}
 use Rattle.rn_assemble.proofs.Referring.SetMarks.{mark_past, mark_set}
 use Rattle.rn_assemble.proofs.by_key.references.marks_of.Goals as goal

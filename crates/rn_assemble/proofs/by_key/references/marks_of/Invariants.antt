@@ -1,7 +1,7 @@
 -- The marks of the numbers so far.
 use Rattle.std.proofs.Common.{take}
 use Rattle.rn_assemble.specs.inside.Referred.{AreMarksOf}
-use Rattle.rn_assemble.specs.inside.Numbers.{key_numbers}
+use Rattle.rn_assemble.specs.inside.Views.{key_numbers}
 use Rattle.rn_assemble.proofs.by_key.references.marks_of.Given as goal
 
 abbrev pub invariant-loop-key : goal.invariant-loop-key

@@ -11,8 +11,7 @@ use Rattle.rn_assemble.specs.declared.including.pieces.Piece.{Piece}
 use Rattle.rn_assemble.specs.inside.Keyed.{key_at}
 use Rattle.rn_assemble.specs.inside.Referred.{AreLiveMarks, AreMarksOf, KeepsLeast, names_within, reference_view}
 use Rattle.rn_assemble.specs.inside.Rows.{IsRowOf}
-use Rattle.rn_assemble.specs.inside.Views.{names_of}
-use Rattle.rn_assemble.specs.inside.Numbers.{key_numbers}
+use Rattle.rn_assemble.specs.inside.Views.{key_numbers, names_of}
 use Rattle.rn_assemble.proofs.Referring.FoundReferences.{names_anywhere, names_outside, ranges}
 use Rattle.rn_assemble.proofs.Referring.GatheredReferences.{Gathered, row_of, gathered_begins, gathered_more, gathered_none, gathered_some}
 use Rattle.rn_assemble.proofs.by_key.references.references_of.Goals as goal

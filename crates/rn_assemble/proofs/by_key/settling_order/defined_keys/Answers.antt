@@ -4,7 +4,7 @@ use Rattle.std.proofs.lemmas.List.{take_all}
 use Rattle.std.proofs.lemmas.Simd.{map-map}
 use Rattle.rn_assemble.specs.declared.by_key.settling_order.FirstPlace.{FirstPlace}
 use Rattle.rn_assemble.specs.declared.reading.keys.KeyId.{KeyId}
-use Rattle.rn_assemble.specs.inside.Numbers.{key_numbers}
+use Rattle.rn_assemble.specs.inside.Views.{key_numbers}
 use Rattle.rn_assemble.specs.inside.ReferenceOrder.{AreDefinedKeys}
 use Rattle.rn_assemble.proofs.Naming.FirstPlaces.{defined_in_order}
 use Rattle.rn_assemble.proofs.Naming.SortedPlaces.{place_cmp, place_of, sorted_in_order}

@@ -6,7 +6,7 @@ use Rattle.std.proofs.lemmas.List.Elements.{Contains-get_or}
 use Rattle.std.proofs.lemmas.Map.Keys.{apart_from_distinct}
 use Rattle.rn_pattern.proofs.Ordered.InOrder.{contained_each}
 use Rattle.rn_assemble.specs.declared.reading.keys.KeyId.{KeyId}
-use Rattle.rn_assemble.specs.inside.Numbers.{key_numbers}
+use Rattle.rn_assemble.specs.inside.Views.{key_numbers}
 use Rattle.rn_assemble.proofs.by_key.settling_order.definition_numbers.Goals as goal
 use Rattle.rn_assemble.proofs.by_key.settling_order.definition_numbers.Goals.{then-key-len, else-key-len}
 

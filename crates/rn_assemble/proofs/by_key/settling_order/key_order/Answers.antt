@@ -3,7 +3,7 @@ use Rattle.rn_pattern.specs.Graph.{rows_of}
 use Rattle.rn_pattern.specs.Ranks.{IsOrdered, IsRanking, IsFirstLoop}
 use Rattle.rn_pattern.proofs.Graphs.BuiltRows.{row_within, kept_graph}
 use Rattle.rn_assemble.specs.inside.ReferenceOrder.{AreReached}
-use Rattle.rn_assemble.specs.inside.Numbers.{key_numbers}
+use Rattle.rn_assemble.specs.inside.Views.{key_numbers}
 use Rattle.rn_assemble.proofs.Referring.NumberedReferences.{none_recursive, least_recursive}
 use Rattle.rn_assemble.proofs.Referring.KeyOrders.{marked_from, ranked_no_loop, order_shown, reference_order}
 use Rattle.rn_assemble.proofs.by_key.settling_order.key_order.Goals as goal

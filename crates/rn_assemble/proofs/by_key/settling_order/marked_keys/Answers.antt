@@ -1,7 +1,7 @@
 use Rattle.std.proofs.lemmas.List.{map-append}
 use Rattle.std.proofs.Common.{ap, refl, ◌∙◌, rules, [], ◌∷◌}
 use Rattle.rn_assemble.specs.declared.reading.keys.KeyId.{KeyId}
-use Rattle.rn_assemble.specs.inside.Numbers.{key_numbers}
+use Rattle.rn_assemble.specs.inside.Views.{key_numbers}
 use Rattle.rn_assemble.proofs.Referring.MarkedPlaces.{no_places, more_places, same_places}
 use Rattle.rn_assemble.proofs.by_key.settling_order.marked_keys.Goals as goal
 use Rattle.rn_assemble.proofs.by_key.settling_order.marked_keys.Goals.{then-marks-number+in_ok-push, else-marks-number}

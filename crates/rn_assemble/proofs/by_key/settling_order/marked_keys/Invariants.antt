@@ -1,4 +1,4 @@
-use Rattle.rn_assemble.specs.inside.Numbers.{key_numbers}
+use Rattle.rn_assemble.specs.inside.Views.{key_numbers}
 use Rattle.rn_assemble.proofs.Referring.MarkedPlaces.{AreBelow}
 use Rattle.rn_assemble.proofs.by_key.settling_order.marked_keys.Given as goal
 

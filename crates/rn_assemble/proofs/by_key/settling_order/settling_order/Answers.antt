@@ -4,9 +4,8 @@ use Rattle.std.proofs.lemmas.Result.{IfOk-weaker}
 use Rattle.std.proofs.lemmas.Simd.{map-map}
 use Rattle.rn_assemble.specs.Combine.{joined_grammar}
 use Rattle.rn_assemble.specs.SettlingOrder.{IsSettlingOrder}
-use Rattle.rn_assemble.specs.inside.Views.{names_of}
+use Rattle.rn_assemble.specs.inside.Views.{key_numbers, names_of}
 use Rattle.rn_assemble.specs.declared.reading.keys.KeyId.{KeyId}
-use Rattle.rn_assemble.specs.inside.Numbers.{key_numbers}
 use Rattle.rn_assemble.proofs.Joining.SettlingOrders.{keys_distinct, settling_order_is}
 use Rattle.rn_assemble.proofs.by_key.settling_order.settling_order.Goals as goal
 

@@ -8,7 +8,7 @@ use Rattle.std.proofs.lemmas.List.Sums.{sum_by_more}
 use Rattle.rn_pattern.specs.Graph.{rows_of}
 use Rattle.rn_assemble.specs.inside.Instances.{instances_of}
 use Rattle.rn_assemble.specs.declared.reading.named_modules.ModuleId.{ModuleId}
-use Rattle.rn_assemble.specs.inside.Numbers.{module_numbers}
+use Rattle.rn_assemble.specs.inside.Views.{module_numbers}
 use Rattle.rn_assemble.proofs.including.inclusion.has_too_many_instances.Goals as goal
 
 pub instances_up_to-count-requires-clause-within : goal.instances_up_to-count-requires-clause-within

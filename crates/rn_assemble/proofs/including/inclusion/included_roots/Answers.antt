@@ -11,8 +11,7 @@ use Rattle.rn_assemble.specs.Components.{instance_limit}
 use Rattle.rn_assemble.specs.inside.Included.{AreIncluded}
 use Rattle.rn_assemble.specs.inside.Instances.{instances_of}
 use Rattle.rn_assemble.specs.Refusal.{IsFirstFor, cycle}
-use Rattle.rn_assemble.specs.inside.Views.{named_module_view, modules_view}
-use Rattle.rn_assemble.specs.inside.Numbers.{module_numbers}
+use Rattle.rn_assemble.specs.inside.Views.{module_numbers, modules_view, named_module_view}
 use Rattle.rn_assemble.proofs.Expansion.RootNumbers.{entries_below}
 use Rattle.rn_assemble.proofs.Expansion.FirstIncludes.{all_included, first_loop, name_seen, too_many}
 use Rattle.rn_assemble.proofs.including.inclusion.included_roots.Goals as goal

@@ -1,6 +1,6 @@
 use Rattle.std.proofs.Common.{◌≡◌, ℕ, ◌+◌, ◌<◌, ◌≤◌, List, length, get_or, Some, sym, ap, ◌∙◌, subst, inl, inr, arith}
 use Rattle.std.specs.Prelude.{slice_get}
-use Rattle.std.proofs.lemmas.Bool.{cases_lt}
+use Rattle.std.proofs.lemmas.Bool.{cases_lt, eq-eqb, eqb-true, false≢true}
 use Rattle.std.proofs.lemmas.Option.{get_or_from_slice_get, slice_get_within}
 use Rattle.rn_assemble.specs.declared.reading.key_rows.WrittenComponent as code
 use Rattle.rn_assemble.proofs.including.pieces.end_of_run.Goals as goal
@@ -37,7 +37,15 @@ pub loop-to-preserved : goal.loop-to-preserved
 loop-to-preserved c = record {
   further = omega arith;
   within = omega arith;
-  inside = inside_more c.args.row.now c.loop-to.to c.args.from c.args.«module».0 c.args.end _ _ c.loop-to.invariant.inside c.if-row-to.true c.if-row-to-2.true;
+  inside = inside_more c.args.row.now c.loop-to.to c.args.from c.args.«module».0 c.args.end _ _ c.loop-to.invariant.inside (eqb-true _ _ (sym c.if-eq.ensures)) c.if-row-to.true;
+}
+
+pub returns-else-eq : goal.returns-else-eq
+returns-else-eq c = record {
+  further = c.loop-to.invariant.further;
+  within = c.loop-to.invariant.within;
+  inside = c.loop-to.invariant.inside;
+  behind = λ w e h. absurd (false≢true (c.if-eq.ensures ∙ eq-eqb _ _ (ap (λ (v : code.WrittenComponent). v.module.0) (get_or_from_slice_get c.args.row.now c.loop-to.to w _ e) ∙ h)));
 }
 
 pub returns-else-row-to : goal.returns-else-row-to
@@ -45,15 +53,7 @@ returns-else-row-to c = record {
   further = c.loop-to.invariant.further;
   within = c.loop-to.invariant.within;
   inside = c.loop-to.invariant.inside;
-  behind = λ w e h. absurd (c.if-row-to.false (ap (λ (v : code.WrittenComponent). v.module.0) (get_or_from_slice_get c.args.row.now c.loop-to.to w _ e) ∙ h));
-}
-
-pub returns-else-row-to-2 : goal.returns-else-row-to-2
-returns-else-row-to-2 c = record {
-  further = c.loop-to.invariant.further;
-  within = c.loop-to.invariant.within;
-  inside = c.loop-to.invariant.inside;
-  behind = λ w e h. read_number c.args.row.now c.loop-to.to (λ n. c.args.end ≤ n) w _ e c.if-row-to-2.false;
+  behind = λ w e h. read_number c.args.row.now c.loop-to.to (λ n. c.args.end ≤ n) w _ e c.if-row-to.false;
 }
 
 pub returns-after-loop-to : goal.returns-after-loop-to

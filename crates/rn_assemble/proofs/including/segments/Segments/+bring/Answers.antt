@@ -1,11 +1,12 @@
-use Rattle.std.proofs.Common.{◌≡◌, ◌+◌, ◌-◌, ◌<◌, ◌≤◌, ◌++◌, ◌∷◌, [], ℕ, suc, List, length, get_or, take, drop, map, Option, Some, None, refl, sym, ap, ◌∙◌, subst, arith, Contains}
+use Rattle.std.proofs.Common.{◌≡◌, ◌+◌, ◌-◌, ◌<◌, ◌≤◌, ◌++◌, ◌∷◌, [], ℕ, suc, List, length, get_or, take, drop, map, Option, Some, None, refl, sym, ap, ◌∙◌, subst, arith}
 use Rattle.std.specs.Prelude.{slice_get, slice_range}
 use Rattle.std.specs.Borrow.{Bor}
 use Rattle.std.specs.List.{AllByRecursion}
 use Rattle.std.specs.Option.{option_map_or}
 use Rattle.std.specs.Rc.{rc_str_bytes}
 use Rattle.std.proofs.lemmas.List.{drop_more, length-append, take_more}
-use Rattle.std.proofs.lemmas.Option.{get_or_from_slice_get, slice_get-get_or, slice_get_past, slice_get_read}
+use Rattle.std.proofs.lemmas.Option.{same_Some, slice_get-get_or, slice_get_past, slice_get_read}
+use Rattle.std.proofs.lemmas.Slice.Zip.{AllZip-long}
 use Rattle.rn_text.specs.Texts.{Text}
 use Rattle.rn_assemble.specs.declared.reading.contents.Contents.{Contents}
 use Rattle.rn_assemble.specs.declared.reading.contents.Include.{Include}
@@ -18,14 +19,12 @@ use Rattle.rn_assemble.specs.inside.Bringing.{Brings, IncludedLacks, included_in
 use Rattle.rn_assemble.specs.inside.ContentsOf.{IsContents, declarations_at, name_at, segment_begin, segment_end, written_at}
 use Rattle.rn_assemble.specs.inside.ContextBindings.{BindsAs}
 use Rattle.rn_assemble.specs.inside.Lacking.{LacksWithin}
-use Rattle.rn_assemble.specs.inside.Numbers.{module_number}
 use Rattle.rn_assemble.specs.inside.Segments.{IsBrought}
-use Rattle.rn_assemble.specs.inside.Views.{inclusion_view}
+use Rattle.rn_assemble.specs.inside.Views.{inclusion_view, module_number}
 use Rattle.rn_assemble.proofs.Expansion.BroughtSegments.{brings_include, brings_none, brings_segment, if_ok_to}
 use Rattle.rn_assemble.proofs.Expansion.IncludeOrder.{Ordered}
 use Rattle.rn_assemble.proofs.Expansion.LeftSegments.{has_written}
 use Rattle.rn_assemble.proofs.Expansion.ModuleExpansion.{IsWithin, can_segment, end_below, going_end, going_more, going_none, is_module}
-use Rattle.rn_assemble.proofs.Expansion.SegmentPlaces.{one_some, zip_size}
 use Rattle.rn_assemble.proofs.including.segments.Segments.+bring.Goals as goal
 use Rattle.rn_assemble.proofs.including.segments.Segments.+bring.Goals.{bring_included-in-Some+in_ok-bring, bring_included-in_default}
 
@@ -38,7 +37,7 @@ bring-returns-then-depth-eq0 t c = λ modules can l.
 
 pub bring-returns-in_default : goal.bring-returns-in_default
 bring-returns-in_default t c = λ modules can l.
-    absurd (omega (arith, l, zip_size (IsContents modules) modules c.args.self.now.contents.now can.are.contents, c.in_default.ensures.lookup.3))
+    absurd (omega (arith, l, AllZip-long (IsContents modules) modules c.args.self.now.contents.now can.are.contents, c.in_default.ensures.lookup.3))
 
 pub bring-includes-init : goal.bring-includes-init
 bring-includes-init t c = record {
@@ -88,7 +87,7 @@ bring-includes-preserved t c = record {
         within = is.within;
         declarations = refl;
         binds = binds;
-        own = λ d e. subst (λ (k : Contents). slice_get k.includes.items c.includes.number ≡ Some i) (one_some content d (sym after ∙ e)) (ap (slice_get items) number ∙ here);
+        own = λ d e. subst (λ (k : Contents). slice_get k.includes.items c.includes.number ≡ Some i) (same_Some content d (sym after ∙ e)) (ap (slice_get items) number ∙ here);
         included = λ j e. within.0 j.0 (ap module_number e);
         ordered = ordered.1;
         to_within = ordered.2;

@@ -23,7 +23,7 @@ returns-clause-added c = λ modules are can.
     let place : c.len-place.result ≡ length x.list.items = omega (arith, c.len-place.ensures) in
     let first = found_or c.first_like.result c.len-place.result c.unwrap_or-first.result (IsFirstOf x c.args.«module».0 c.args.number (rc_str_bytes c.args.context.inherited.now)) c.unwrap_or-first.ensures c.first_like.ensures in
     if_ok_to c.note_place.result
-    (λ noted. adds_segment modules x y c.args.«module».0 c.args.number c.args.context c.args.from c.args.to c.unwrap_or-first.result are can
+    (λ noted. adds_segment modules x y c.args.«module» c.args.number c.args.context c.args.from c.args.to c.unwrap_or-first.result are can
     (ap (λ (r : Bor (List Contents)). r.now) c.note_place.ensures.contents) (ap (λ (v : Vec Segment Global). v.items) c.note_place.ensures.list ∙ c.in_ok-push.ensures.items)
     (subst (λ n. NotesPlace x.places.items y.places.items c.args.«module».0 c.args.number n) place noted)
     (subst (λ n. (c.unwrap_or-first.result ≡ n) ⊎ IsFirstOf x c.args.«module».0 c.args.number (rc_str_bytes c.args.context.inherited.now) c.unwrap_or-first.result) place first))

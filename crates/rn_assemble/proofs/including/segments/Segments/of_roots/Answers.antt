@@ -9,7 +9,7 @@ use Rattle.rn_assemble.specs.inside.Bringing.{Brings, CanList}
 use Rattle.rn_assemble.specs.inside.ContentsOf.{name_at}
 use Rattle.rn_assemble.specs.inside.Lacking.{LacksWithin}
 use Rattle.rn_assemble.specs.declared.reading.named_modules.ModuleId.{ModuleId}
-use Rattle.rn_assemble.specs.inside.Numbers.{module_numbers}
+use Rattle.rn_assemble.specs.inside.Views.{module_numbers}
 use Rattle.rn_assemble.proofs.Expansion.EmptyPlaces.{can_begin}
 use Rattle.rn_assemble.proofs.Expansion.RootSegments.{AreRootSegments, root_lacks, root_segments, roots_more, roots_none}
 use Rattle.rn_assemble.proofs.including.segments.Segments.of_roots.Goals as goal

@@ -2,7 +2,7 @@ use Rattle.std.proofs.Common.{List, length, take}
 use Rattle.rn_pattern.specs.Graph.{AllBelow}
 use Rattle.rn_assemble.specs.Components.{NamedModule}
 use Rattle.rn_assemble.specs.inside.Bringing.{CanList}
-use Rattle.rn_assemble.specs.inside.Numbers.{module_numbers}
+use Rattle.rn_assemble.specs.inside.Views.{module_numbers}
 use Rattle.rn_assemble.proofs.Expansion.RootSegments.{AreRootSegments}
 use Rattle.rn_assemble.proofs.including.segments.Segments.of_roots.Given as goal
 
