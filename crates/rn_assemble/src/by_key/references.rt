@@ -14,7 +14,7 @@ ghost use Rattle.rn_assemble.specs.declared.including.pieces.Piece as specs_piec
 ghost use Rattle.rn_assemble.specs.declared.reading.keys.KeyId.{KeyId};
 ghost use Rattle.rn_assemble.specs.inside.Pieces.{AreKnownBy, OfKeys};
 ghost use Rattle.rn_assemble.specs.inside.ReferenceOrder.{AreDefinedKeys};
-ghost use Rattle.rn_assemble.specs.inside.Referred.{AreAllReferences, AreLiveMarks, AreMarksOf, AreNumbers, IsLeastUndefined, KeepsLeast, all_references, lesser_text, marked_references, names_within, number_within, reference_view, references};
+ghost use Rattle.rn_assemble.specs.inside.Referred.{AreAllReferences, AreLiveMarks, AreMarksOf, AreNumbers, AreRowsOrLeast, IsLeastUndefined, KeepsLeast, all_references, lesser_text, marked_references, names_within, number_within, reference_view, references};
 ghost use Rattle.rn_assemble.specs.inside.Views.{key_numbers, names_of};
 
 use crate::including::pieces::Piece;
@@ -68,7 +68,18 @@ pub(crate) fn reference_rows<'s>(
     rows: &KeyRows<'s>,
     segments: &Segments<'_, '_, '_>,
     defined: &[KeyId],
-) -> Result<(ReferenceRows, Option<&'s str>), AllocError> {
+) -> Result<(ReferenceRows, Option<&'s str>), AllocError>
+    requires { AreKnownBy (names_of keys.now) rows.now segments.now }
+    ensures everywhere { IfOk result (λ r. IsGraph (rows_of r.0.everywhere)) }
+    ensures everywhere_size { IfOk result (λ r. length (rows_of r.0.everywhere)
+        ≡ length (names_of keys.now) + 1) }
+    ensures outside { IfOk result (λ r. IsGraph (rows_of r.0.outside)) }
+    ensures outside_size { IfOk result (λ r. length (rows_of r.0.outside)
+        ≡ length (names_of keys.now) + 1) }
+    ensures found { OfKeys keys.now rows.now segments.now
+        (λ names cs. AreDefinedKeys names cs (key_numbers defined.now) → IfOk result
+        (λ r. AreRowsOrLeast names cs r.0 (option_map (λ s. s.now) r.1))) }
+{
     let is_defined = marks_of(alloc, rows.len(), defined)?;
     let mut pieces = Vec::new(alloc);
     let mut references = Vec::new(alloc);

@@ -1,13 +1,22 @@
 // What a set is made of, and what stands against it.
+ghost use Rattle.std.specs.Prelude.{IfErr, List};
+ghost use Rattle.std.specs.List.{AllByRecursion};
+ghost use Rattle.rn_assemble.specs.Components as specs;
+ghost use Rattle.rn_assemble.specs.Refused.{IsFirstRefusal};
+ghost use Rattle.rn_assemble.specs.inside.Checked.{IsFirstOfModules};
+ghost use Rattle.rn_assemble.specs.inside.Contained.{AreFlat};
+ghost use Rattle.rn_assemble.specs.inside.Pieces.{AreKnownBy, IsKnownRow};
+ghost use Rattle.rn_assemble.specs.inside.Views.{AreInOrder, modules_view, names_of};
+
 use super::findings::{Finding, findings};
 use super::left_definitions::left_definitions;
 use super::loops::loop_of;
-use super::occurrences::{FirstTwo, depths_of};
+use super::occurrences::{depths_of, occurrences};
 use super::places::{ComponentPlace, LeftDefinition};
 use crate::including::inclusion::included_roots;
 use crate::including::segments::Segments;
 use crate::reading::contents::contents_of;
-use crate::reading::key_rows::KeyRows;
+use crate::reading::key_rows::{KeyRows, WrittenComponent};
 use crate::reading::keys::{KeyId, Keys, START, seed_of};
 use crate::reading::named_modules::{NamedModule, read_modules, split_items};
 use crate::refusal::{Key, Refusal};
@@ -41,17 +50,25 @@ impl<'s> Diagnosis<'s> {
 
     /// The names that have a definition which is left, in order.
     pub fn defined_names(&self, alloc: Global) -> Result<Vec<&'s str>, AllocError> {
-        let mut is_defined = vec![in alloc; false; self.names.len()]?;
-        for definition in &self.definitions {
-            is_defined[definition.key.0] = true;
-        }
+        let is_defined = self.defined_marks(alloc)?;
         let mut names = Vec::new(alloc);
-        for number in 1..self.names.len() {
-            if is_defined[number] {
+        for number in START.0 + 1..self.names.len() {
+            if is_defined.get(number).copied().unwrap_or(false) {
                 names.push(self.names[number])?;
             }
         }
         Ok(names)
+    }
+
+    /// For each key, whether it has a definition which is left.
+    fn defined_marks(&self, alloc: Global) -> Result<Vec<bool>, AllocError> {
+        let mut marks = vec![in alloc; false; self.names.len()]?;
+        for definition in &self.definitions {
+            if let Some(mark) = marks.get_mut(definition.key.0) {
+                *mark = true;
+            }
+        }
+        Ok(marks)
     }
 }
 
@@ -61,7 +78,9 @@ pub fn diagnose<'s>(
     alloc: Global,
     set: &'s ModuleSet,
     refusal: Option<&Refusal>,
-) -> Result<Diagnosis<'s>, Refusal> {
+) -> Result<Diagnosis<'s>, Refusal>
+    ensures err { IfErr result (IsFirstRefusal set.now) }
+{
     let modules = read_modules(alloc, set)?;
     diagnose_modules(alloc, modules, refusal, &seed_of(set))
 }
@@ -72,7 +91,12 @@ fn diagnose_modules<'s>(
     modules: Vec<NamedModule<'s>>,
     refusal: Option<&Refusal>,
     seed: &Seed,
-) -> Result<Diagnosis<'s>, Refusal> {
+) -> Result<Diagnosis<'s>, Refusal>
+    requires in_order { AreInOrder modules.items }
+    requires flat { AllByRecursion (λ (m : specs.NamedModule). AreFlat m.tree.items)
+        (modules_view modules.items) }
+    ensures { IfErr result (IsFirstOfModules (modules_view modules.entry.items)) }
+{
     let roots = included_roots(alloc, modules.as_slice())?;
     let keys = Keys::new(alloc, modules.as_slice(), seed)?;
     let constants = Constants::new(alloc)?;
@@ -103,15 +127,17 @@ fn way_of<'s>(
     rows: &KeyRows<'s>,
     segments: &Segments<'_, '_, '_>,
     refusal: Option<&Refusal>,
-) -> Result<Vec<ComponentPlace>, AllocError> {
+) -> Result<Vec<ComponentPlace>, AllocError>
+    requires { AreKnownBy (names_of keys.now) rows.now segments.now }
+{
     match refusal {
         Some(Refusal::Recursive { name }) => loop_of(alloc, keys, rows, segments, name),
-        Some(Refusal::NameClass { key: Key::Start }) => first_of(alloc, rows, segments, START),
+        Some(Refusal::NameClass { key: Key::Start }) => first_of(alloc, rows.row(START), segments),
         Some(
             Refusal::NameClass {
                 key: Key::Define(name),
             },
-        ) => first_of(alloc, rows, segments, keys.number(name)),
+        ) => first_of(alloc, rows.row(keys.number(name)), segments),
         _ => Ok(Vec::new(alloc)),
     }
 }
@@ -119,16 +145,17 @@ fn way_of<'s>(
 /// The first definition of a key that is left, if there is one.
 fn first_of(
     alloc: Global,
-    rows: &KeyRows<'_>,
+    row: &[WrittenComponent<'_>],
     segments: &Segments<'_, '_, '_>,
-    key: KeyId,
-) -> Result<Vec<ComponentPlace>, AllocError> {
-    let row = rows.row(key);
+) -> Result<Vec<ComponentPlace>, AllocError>
+    requires { IsKnownRow row.now segments.now }
+{
     let mut pieces = Vec::new(alloc);
     segments.live_pieces(row, &mut pieces)?;
     let depths = depths_of(alloc, segments)?;
+    let found = occurrences(alloc, row, &pieces, &depths, None)?;
     let mut places = Vec::new(alloc);
-    if let Some(first) = FirstTwo::of(row, &pieces, &depths, None).first {
+    if let Some(first) = found.first() {
         places.push(ComponentPlace::of(&row[first.index]))?;
     }
     Ok(places)

@@ -1,8 +1,12 @@
 // What stands against combining a set, all of it (RELAX NG 2001, 4.7, 4.17 and 4.18).
-use super::occurrences::{FirstTwo, Occurrence, depths_of, parting_includes};
+ghost use Rattle.std.specs.Prelude.{◌≡◌, ◌<◌, length};
+ghost use Rattle.rn_assemble.specs.inside.Pieces.{AreAllPieces, AreKnown, AreKnownBy, IsKnownRow};
+ghost use Rattle.rn_assemble.specs.inside.Views.{names_of};
+
+use super::occurrences::{Occurrence, depths_of, occurrences, parting_includes};
 use super::places::{ComponentPlace, IncludePlace, ReferencePlace};
 use super::undefined_names::undefined_names;
-use crate::including::pieces::{first_own, lacks};
+use crate::including::pieces::{Piece, first_own, lacks};
 use crate::including::segments::{FollowedInclude, Segments};
 use crate::reading::key_rows::{KeyRows, WrittenComponent};
 use crate::reading::keys::{KeyId, Keys, START};
@@ -59,7 +63,9 @@ pub(crate) fn findings<'s>(
     keys: &Keys<'s>,
     rows: &KeyRows<'s>,
     segments: &Segments<'_, '_, '_>,
-) -> Result<Vec<Finding<'s>>, AllocError> {
+) -> Result<Vec<Finding<'s>>, AllocError>
+    requires { AreKnownBy (names_of keys.now) rows.now segments.now }
+{
     let mut found = Vec::new(alloc);
     for lack in lacks_of(alloc, rows, segments)? {
         found.push(Finding::Override {
@@ -94,26 +100,48 @@ fn lacks_of(
     alloc: Global,
     rows: &KeyRows<'_>,
     segments: &Segments<'_, '_, '_>,
-) -> Result<Vec<Lack>, AllocError> {
+) -> Result<Vec<Lack>, AllocError>
+    requires { AreKnown rows.now segments.now }
+{
     let mut found = Vec::new(alloc);
     let mut pieces = Vec::new(alloc);
     for number in 0..rows.len() {
-        let key = KeyId(number);
-        let row = rows.row(key);
+        let row = rows.row(KeyId(number));
         segments.all_pieces(row, &mut pieces)?;
         if segments.has_own(row) {
-            for include in &segments.brought {
-                if lacks(row, &pieces, include) {
-                    push_lack(key, row, include, &mut found)?;
-                }
-            }
+            push_lacks(KeyId(number), row, &pieces, segments, &mut found)?;
         }
     }
+    put_in_order(&mut found)?;
+    Ok(found)
+}
+
+/// Puts the lacks in the order of modules, keys and definitions, and leaves the first of each module and key.
+fn put_in_order(found: &mut Vec<Lack>) -> Result<(), AllocError> {
     found.sort_by_key(|lack: &Lack| (lack.component.module, lack.key, lack.component.number))?;
     found.dedup_by(|later, before| {
-        (later.component.module, later.key) == (before.component.module, before.key)
+        later.component.module == before.component.module && later.key == before.key
     });
-    Ok(found)
+    Ok(())
+}
+
+/// Adds what the includes lack of a key; `pieces` has all pieces of it.
+fn push_lacks(
+    key: KeyId,
+    row: &[WrittenComponent<'_>],
+    pieces: &[Piece],
+    segments: &Segments<'_, '_, '_>,
+    found: &mut Vec<Lack>,
+) -> Result<(), AllocError>
+    requires known { IsKnownRow row.now segments.now }
+    requires all { AreAllPieces segments.now.list.items row.now pieces.now }
+{
+    for include in &segments.brought {
+        if lacks(row, pieces, include) {
+            push_lack(key, row, include, found)?;
+        }
+    }
+    Ok(())
 }
 
 /// Adds the include's first definition of a key that it overrides.
@@ -143,15 +171,18 @@ fn push_plain_twice(
     segments: &Segments<'_, '_, '_>,
     depths: &[usize],
     found: &mut Vec<Finding<'_>>,
-) -> Result<(), AllocError> {
+) -> Result<(), AllocError>
+    requires known { AreKnown rows.now segments.now }
+    requires depths { length depths.now ≡ length segments.now.list.items }
+{
     let mut pieces = Vec::new(alloc);
     for number in 0..rows.len() {
         let key = KeyId(number);
         let row = rows.row(key);
         segments.live_pieces(row, &mut pieces)?;
-        let plain = FirstTwo::of(row, &pieces, depths, Some(Method::Plain));
-        if let (Some(first), Some(second)) = (plain.first, plain.second) {
-            found.push(plain_twice(key, row, segments, first, second))?;
+        let plain = occurrences(alloc, row, &pieces, depths, Some(Method::Plain))?;
+        if plain.len() > 1 {
+            found.push(plain_twice(key, row, segments, plain[0], plain[1]))?;
         }
     }
     Ok(())
@@ -164,7 +195,10 @@ fn plain_twice<'s>(
     segments: &Segments<'_, '_, '_>,
     first: Occurrence,
     second: Occurrence,
-) -> Finding<'s> {
+) -> Finding<'s>
+    requires first { first.index < length row.now }
+    requires second { second.index < length row.now }
+{
     let parting = if first.index == second.index {
         parting_includes(segments, first.segment, second.segment)
     } else {
@@ -185,15 +219,18 @@ fn push_mixed(
     segments: &Segments<'_, '_, '_>,
     depths: &[usize],
     found: &mut Vec<Finding<'_>>,
-) -> Result<(), AllocError> {
+) -> Result<(), AllocError>
+    requires known { AreKnown rows.now segments.now }
+    requires depths { length depths.now ≡ length segments.now.list.items }
+{
     let mut pieces = Vec::new(alloc);
     for number in 0..rows.len() {
         let key = KeyId(number);
         let row = rows.row(key);
         segments.live_pieces(row, &mut pieces)?;
-        let choice = FirstTwo::of(row, &pieces, depths, Some(Method::Choice)).first;
-        let interleave = FirstTwo::of(row, &pieces, depths, Some(Method::Interleave)).first;
-        if let (Some(choice), Some(interleave)) = (choice, interleave) {
+        let choices = occurrences(alloc, row, &pieces, depths, Some(Method::Choice))?;
+        let interleaves = occurrences(alloc, row, &pieces, depths, Some(Method::Interleave))?;
+        if let (Some(choice), Some(interleave)) = (choices.first(), interleaves.first()) {
             found.push(Finding::MixedMethods {
                 key,
                 choice: ComponentPlace::of(&row[choice.index]),
@@ -210,7 +247,9 @@ fn push_no_start(
     rows: &KeyRows<'_>,
     segments: &Segments<'_, '_, '_>,
     found: &mut Vec<Finding<'_>>,
-) -> Result<(), AllocError> {
+) -> Result<(), AllocError>
+    requires { AreKnown rows.now segments.now }
+{
     let mut pieces = Vec::new(alloc);
     segments.live_pieces(rows.row(START), &mut pieces)?;
     if pieces.is_empty() {

@@ -1,4 +1,9 @@
 // The definitions that are left in a set, in the order in which they are combined (RELAX NG 2001, 4.7 and 4.17).
+ghost use Rattle.std.specs.Prelude.{◌≤◌, length};
+ghost use Rattle.std.specs.List.{AllByRecursion};
+ghost use Rattle.rn_assemble.specs.declared.including.pieces.Piece as code_piece;
+ghost use Rattle.rn_assemble.specs.inside.Pieces.{AreKnown};
+
 use super::places::{ComponentPlace, LeftDefinition};
 use crate::including::pieces::Piece;
 use crate::including::segments::Segments;
@@ -18,7 +23,9 @@ pub(crate) fn left_definitions(
     alloc: Global,
     rows: &KeyRows<'_>,
     segments: &Segments<'_, '_, '_>,
-) -> Result<Vec<LeftDefinition>, AllocError> {
+) -> Result<Vec<LeftDefinition>, AllocError>
+    requires { AreKnown rows.now segments.now }
+{
     let mut firsts = Vec::new(alloc);
     let mut pieces = Vec::new(alloc);
     for number in 0..rows.len() {
@@ -45,20 +52,37 @@ fn push_first_occurrences(
     row: &[WrittenComponent<'_>],
     pieces: &[Piece],
     firsts: &mut Vec<FirstOccurrence>,
-) -> Result<(), AllocError> {
+) -> Result<(), AllocError>
+    requires { AllByRecursion (λ (p : code_piece.Piece). p.to ≤ length row.now) pieces.now }
+{
     let mut is_met = vec![in alloc; false; row.len()]?;
     for piece in pieces {
-        for index in piece.from..piece.to {
-            if !is_met[index] {
-                is_met[index] = true;
-                firsts.push(FirstOccurrence {
-                    segment: piece.segment,
-                    definition: LeftDefinition {
-                        key,
-                        component: ComponentPlace::of(&row[index]),
-                    },
-                })?;
-            }
+        push_unmet(key, row, piece, &mut is_met, firsts)?;
+    }
+    Ok(())
+}
+
+/// Adds the components of a piece that weren't met before, and notes that they were met.
+fn push_unmet(
+    key: KeyId,
+    row: &[WrittenComponent<'_>],
+    piece: &Piece,
+    is_met: &mut [bool],
+    firsts: &mut Vec<FirstOccurrence>,
+) -> Result<(), AllocError>
+    requires within { piece.now.to ≤ length row.now }
+    requires marks { piece.now.to ≤ length is_met.old }
+{
+    for index in piece.from..piece.to {
+        if !is_met[index] {
+            is_met[index] = true;
+            firsts.push(FirstOccurrence {
+                segment: piece.segment,
+                definition: LeftDefinition {
+                    key,
+                    component: ComponentPlace::of(&row[index]),
+                },
+            })?;
         }
     }
     Ok(())

@@ -1,6 +1,9 @@
 // Where a loop of definitions is that refer to each other outside elements (RELAX NG 2001, 4.19).
+ghost use Rattle.rn_assemble.specs.inside.Pieces.{AreKnownBy, IsKnownRow};
+ghost use Rattle.rn_assemble.specs.inside.Views.{names_of};
+
 use super::places::ComponentPlace;
-use crate::by_key::references::{live_marks, refer, reference_rows};
+use crate::by_key::references::{Reference, live_marks, refer, reference_rows};
 use crate::by_key::settling_order::defined_keys;
 use crate::including::segments::Segments;
 use crate::reading::key_rows::{KeyRows, WrittenComponent};
@@ -17,22 +20,39 @@ pub(crate) fn loop_of<'s>(
     rows: &KeyRows<'s>,
     segments: &Segments<'_, '_, '_>,
     name: &str,
-) -> Result<Vec<ComponentPlace>, AllocError> {
-    let mut places = Vec::new(alloc);
+) -> Result<Vec<ComponentPlace>, AllocError>
+    requires { AreKnownBy (names_of keys.now) rows.now segments.now }
+{
     let Some(key) = keys.find(name) else {
-        return Ok(places);
+        return Ok(Vec::new(alloc));
     };
     let defined = defined_keys(alloc, rows, segments)?;
-    let references = reference_rows(alloc, keys, rows, segments, &defined)?.0;
-    let Some(passed) = shortest_loop(alloc, &references.outside, key.0)? else {
-        return Ok(places);
-    };
+    let (references, _) = reference_rows(alloc, keys, rows, segments, &defined)?;
+    match shortest_loop(alloc, &references.outside, key.0)? {
+        Some(passed) => places_along(alloc, keys, rows, segments, &passed),
+        None => Ok(Vec::new(alloc)),
+    }
+}
+
+/// Of each of these keys, the first definition that refers to the next one; of the last one, to the first.
+fn places_along(
+    alloc: Global,
+    keys: &Keys<'_>,
+    rows: &KeyRows<'_>,
+    segments: &Segments<'_, '_, '_>,
+    passed: &[usize],
+) -> Result<Vec<ComponentPlace>, AllocError>
+    requires { AreKnownBy (names_of keys.now) rows.now segments.now }
+{
+    let mut places = Vec::new(alloc);
     for at in 0..passed.len() {
-        let next = *passed.get(at + 1).unwrap_or(&key.0);
-        let row = rows.row(KeyId(passed[at]));
-        let next = keys.name(KeyId(next));
-        if let Some(component) = first_referring(alloc, row, segments, next)? {
-            places.push(component)?;
+        let next = if at + 1 < passed.len() { passed[at + 1] } else { passed[0] };
+        let name = keys.name(KeyId(next));
+        if passed[at] < rows.len() {
+            let row = rows.row(KeyId(passed[at]));
+            if let Some(component) = first_referring(alloc, row, segments, name)? {
+                places.push(component)?;
+            }
         }
     }
     Ok(places)
@@ -44,7 +64,9 @@ fn first_referring(
     row: &[WrittenComponent<'_>],
     segments: &Segments<'_, '_, '_>,
     name: &str,
-) -> Result<Option<ComponentPlace>, AllocError> {
+) -> Result<Option<ComponentPlace>, AllocError>
+    requires { IsKnownRow row.now segments.now }
+{
     let mut pieces = Vec::new(alloc);
     segments.live_pieces(row, &mut pieces)?;
     let is_live = live_marks(alloc, row.len(), &pieces)?;
@@ -64,5 +86,5 @@ fn refers_outside(
 ) -> Result<bool, AllocError> {
     let mut references = Vec::new(alloc);
     refer(&component.body, Reach::OutsideElements, &mut references)?;
-    Ok(references.iter().any(|one| one.reach == Reach::OutsideElements && one.name == name))
+    Ok(references.iter().any(|one: &Reference<'_>| one.reach == Reach::OutsideElements && one.name == name))
 }

@@ -1,4 +1,10 @@
 // Which components of a key come first: those by fewer includes, and then in the order in which they are combined.
+ghost use Rattle.std.specs.Prelude.{◌≡◌, ◌<◌, IfOk, length};
+ghost use Rattle.std.specs.List.{AllByRecursion};
+ghost use Rattle.rn_assemble.specs.declared.including.pieces.Piece as code_piece;
+ghost use Rattle.rn_assemble.specs.inside.Diagnosing.{AddsOccurrences, AreOccurrences, AreInList, HasBrought, meets};
+ghost use Rattle.rn_assemble.specs.inside.Pieces.{AreSomePieces};
+
 use super::places::{ComponentPlace, IncludePlace};
 use crate::including::pieces::Piece;
 use crate::including::segments::Segments;
@@ -7,7 +13,7 @@ use rn_syntax::Method;
 use std::alloc::{AllocError, Global};
 
 /// A component of a row in one of the segments that have it.
-#[derive(Clone, Copy, PartialEq, Eq, PartialOrd, Ord)]
+#[derive(Clone, Copy)]
 pub(crate) struct Occurrence {
     /// How many includes bring the segment, one inside the other.
     depth: usize,
@@ -17,51 +23,58 @@ pub(crate) struct Occurrence {
     pub index: usize,
 }
 
-/// The first two of some occurrences.
-#[derive(Clone, Copy)]
-pub(crate) struct FirstTwo {
-    pub first: Option<Occurrence>,
-    pub second: Option<Occurrence>,
+/// Of the components of these pieces those that have the method, or all where none is given; `depths` has the depth of
+/// each segment.
+pub(crate) fn occurrences(
+    alloc: Global,
+    row: &[WrittenComponent<'_>],
+    pieces: &[Piece],
+    depths: &[usize],
+    method: Option<Method>,
+) -> Result<Vec<Occurrence>, AllocError>
+    requires pieces { AreSomePieces row.now pieces.now }
+    requires depths { AreInList (length depths.now) pieces.now }
+    ensures { IfOk result (λ found. AreOccurrences row.now pieces.now (meets method) found.items) }
+{
+    let mut found = Vec::new(alloc);
+    for piece in pieces {
+        push_occurrences(row, piece, depths[piece.segment], method, &mut found)?;
+    }
+    found.sort_by_key(|one: &Occurrence| (one.depth, one.segment, one.index))?;
+    Ok(found)
 }
 
-impl FirstTwo {
-    /// Of the components of these pieces that have the method, or of all where none is given; `depths` has the depth of
-    /// each segment.
-    pub fn of(
-        row: &[WrittenComponent<'_>],
-        pieces: &[Piece],
-        depths: &[usize],
-        method: Option<Method>,
-    ) -> FirstTwo {
-        let mut found = FirstTwo {
-            first: None,
-            second: None,
-        };
-        for piece in pieces {
-            let depth = depths[piece.segment];
-            for index in piece.from..piece.to {
-                if method.is_none_or(|method| row[index].method == method) {
-                    found.meet(Occurrence {
-                        depth,
-                        segment: piece.segment,
-                        index,
-                    });
-                }
-            }
+/// Adds the components of a piece that have the method, or all where none is given.
+fn push_occurrences(
+    row: &[WrittenComponent<'_>],
+    piece: &Piece,
+    depth: usize,
+    method: Option<Method>,
+    found: &mut Vec<Occurrence>,
+) -> Result<(), AllocError>
+    requires { piece.now.to ≤ length row.now }
+    ensures { IfOk result (λ _. AddsOccurrences row.now piece.now (meets method) found.old.items
+        found.new.items) }
+{
+    for index in piece.from..piece.to {
+        if has_method(&row[index], method) {
+            found.push(Occurrence {
+                depth,
+                segment: piece.segment,
+                index,
+            })?;
         }
-        found
     }
+    Ok(())
+}
 
-    fn meet(&mut self, other: Occurrence) {
-        match (self.first, self.second) {
-            (Some(first), _) if other < first => {
-                self.second = self.first;
-                self.first = Some(other);
-            }
-            (Some(_), Some(second)) if other >= second => {}
-            (Some(_), _) => self.second = Some(other),
-            (None, _) => self.first = Some(other),
-        }
+/// Whether a component has the method, if one is given.
+fn has_method(component: &WrittenComponent<'_>, method: Option<Method>) -> bool
+    ensures { result ≡ meets method component.now.method }
+{
+    match method {
+        Some(method) => component.method == method,
+        None => true,
     }
 }
 
@@ -69,14 +82,22 @@ impl FirstTwo {
 pub(crate) fn depths_of(
     alloc: Global,
     segments: &Segments<'_, '_, '_>,
-) -> Result<Vec<usize>, AllocError> {
+) -> Result<Vec<usize>, AllocError>
+    requires { HasBrought segments.now }
+    ensures { IfOk result (λ depths. length depths.items ≡ length segments.now.list.items) }
+{
     let mut depths = vec![in alloc; 0usize; segments.list.len()]?;
     for include in &segments.brought {
-        for depth in depths[include.from..include.to].iter_mut() {
-            *depth = depth.saturating_add(1);
-        }
+        add_one(&mut depths[include.from..include.to]);
     }
     Ok(depths)
+}
+
+/// Adds one to each number.
+fn add_one(numbers: &mut [usize]) {
+    for number in numbers.iter_mut() {
+        *number = number.saturating_add(1);
+    }
 }
 
 /// The two includes at which the ways to two segments part, looked at from the segments outwards; none where one way

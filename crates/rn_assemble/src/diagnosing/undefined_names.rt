@@ -1,4 +1,8 @@
 // Names that are referred to and not defined, with their first references (RELAX NG 2001, 4.18).
+ghost use Rattle.std.specs.Prelude.{◌≤◌, length};
+ghost use Rattle.rn_assemble.specs.inside.Pieces.{AreKnownBy};
+ghost use Rattle.rn_assemble.specs.inside.Views.{names_of};
+
 use super::places::{ComponentPlace, ReferencePlace};
 use crate::by_key::references::{has_mark, live_marks, marks_of, refer};
 use crate::by_key::settling_order::defined_keys;
@@ -21,7 +25,9 @@ pub(crate) fn undefined_names<'s>(
     keys: &Keys<'s>,
     rows: &KeyRows<'s>,
     segments: &Segments<'_, '_, '_>,
-) -> Result<Vec<UndefinedName<'s>>, AllocError> {
+) -> Result<Vec<UndefinedName<'s>>, AllocError>
+    requires { AreKnownBy (names_of keys.now) rows.now segments.now }
+{
     let defined = defined_keys(alloc, rows, segments)?;
     let is_defined = marks_of(alloc, rows.len(), &defined)?;
     let mut found = Vec::new(alloc);
@@ -46,7 +52,9 @@ fn push_undefined<'s>(
     row: &[WrittenComponent<'s>],
     is_live: &[bool],
     found: &mut Vec<UndefinedName<'s>>,
-) -> Result<(), AllocError> {
+) -> Result<(), AllocError>
+    requires { length row.now ≤ length is_live.now }
+{
     for index in 0..row.len() {
         if is_live[index] {
             push_undefined_of(alloc, keys, is_defined, &row[index], found)?;

@@ -1,5 +1,5 @@
 // The pieces of a key: which of the components that modules define under it stand in each segment.
-ghost use Rattle.std.specs.Prelude.{◌≡◌, ◌<◌, ◌≤◌, ◌↔◌, Contains, IfOk, IsTrue, Some, false, length, map, min, slice_get};
+ghost use Rattle.std.specs.Prelude.{◌≡◌, ◌<◌, ◌≤◌, ◌↔◌, Contains, IfOk, IsTrue, Some, false, length, map, min, option_map, slice_get};
 ghost use Rattle.std.specs.Option.{option_map_or};
 ghost use Rattle.std.specs.List.{AllByRecursion};
 ghost use Rattle.std.specs.List.Sorted.{IsStrictlyIncreasing};
@@ -10,7 +10,7 @@ ghost use Rattle.rn_assemble.specs.declared.including.pieces.Piece.{Piece};
 ghost use Rattle.rn_assemble.specs.declared.including.segments.FollowedInclude.{FollowedInclude};
 ghost use Rattle.rn_assemble.specs.inside.ContentsOf.{AreApart, HasOrderedIncludes};
 ghost use Rattle.rn_assemble.specs.inside.Pieces.{AreAllPieces, AreLeft, ArePieces, IsKnownRow, IsLeastLacking, OfRow, overrides_in};
-ghost use Rattle.rn_assemble.specs.inside.Runs.{AddsRun, ArePiecesIn, IsEndOfRun, IsLackByPieces, IsOrderedRow, marked, marked_in};
+ghost use Rattle.rn_assemble.specs.inside.Runs.{AddsRun, ArePiecesIn, IsEndOfRun, IsFirstOwn, IsLackByPieces, IsOrderedRow, marked, marked_in};
 
 use crate::including::segments::{FollowedInclude, Segments};
 use crate::reading::key_rows::WrittenComponent;
@@ -233,7 +233,10 @@ fn overrides(row: &[WrittenComponent<'_>], brought: &FollowedInclude) -> bool
 pub(crate) fn first_own<'r, 's>(
     row: &'r [WrittenComponent<'s>],
     brought: &FollowedInclude,
-) -> Option<&'r WrittenComponent<'s>> {
+) -> Option<&'r WrittenComponent<'s>>
+    requires { IsOrderedRow row.now }
+    ensures { IsFirstOwn row.now brought.now (option_map (λ w. w.now) result) }
+{
     let at = row.partition_point(|component: &WrittenComponent<'_>| {
         component.module < brought.module
             || (component.module == brought.module && component.number < brought.own_from)

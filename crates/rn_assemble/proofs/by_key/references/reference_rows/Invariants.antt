@@ -5,7 +5,7 @@ use Rattle.rn_pattern.proofs.Graphs.BuiltRows.{AreRows}
 use Rattle.rn_assemble.specs.inside.Pieces.{OfKeys}
 use Rattle.rn_assemble.specs.inside.Views.{names_of}
 use Rattle.rn_assemble.proofs.Referring.GatheredReferences.{Gathered}
-use Rattle.rn_assemble.proofs.by_key.references.references_of.Given as goal
+use Rattle.rn_assemble.proofs.by_key.references.reference_rows.Given as goal
 
 abbrev pub invariant-loop-number : goal.invariant-loop-number
 invariant-loop-number l = record {

@@ -13,8 +13,8 @@ use Rattle.rn_assemble.specs.inside.Referred.{AreLiveMarks, AreMarksOf, KeepsLea
 use Rattle.rn_assemble.specs.inside.Rows.{IsRowOf}
 use Rattle.rn_assemble.specs.inside.Views.{key_numbers, names_of}
 use Rattle.rn_assemble.proofs.Referring.FoundReferences.{names_anywhere, names_outside, ranges}
-use Rattle.rn_assemble.proofs.Referring.GatheredReferences.{Gathered, row_of, gathered_begins, gathered_more, gathered_none, gathered_some}
-use Rattle.rn_assemble.proofs.by_key.references.references_of.Goals as goal
+use Rattle.rn_assemble.proofs.Referring.GatheredReferences.{Gathered, row_of, gathered_begins, gathered_more, rows_or_least}
+use Rattle.rn_assemble.proofs.by_key.references.reference_rows.Goals as goal
 
 pub loop-number-init : goal.loop-number-init
 loop-number-init c = record {
@@ -89,19 +89,6 @@ returns-clause-found c = λ modules cs s r x d.
     let outside = rows_of c.loop-number.found.outside in
     let size : c.len.result ≡ suc (length names) = omega (arith, c.len.ensures, r.size) in
     let done : c.loop-number.number ≡ suc (length names) = omega (arith, c.loop-number-test.false, c.loop-number.auto.number-end, c.len-number-end.ensures, r.size) in
-    gathered_none names cs (key_numbers c.args.defined.now) d marks (subst (λ n. AreMarksOf (key_numbers c.args.defined.now) n marks) size c.in_ok-is_defined.ensures) everywhere outside (c.loop-number.invariant.everywhere_size ∙ done) (c.loop-number.invariant.outside_size ∙ done)
-    (subst (λ n. Gathered names cs marks everywhere outside n None) done
-    (subst (λ o. Gathered names cs marks everywhere outside c.loop-number.number (option_map (λ t. t.now) o)) c.in-None.is (c.loop-number.invariant.gathered modules cs s r x)))
-
-pub returns-in-Some-clause-found : goal.returns-in-Some-clause-found
-returns-in-Some-clause-found c = λ modules cs s r x d.
-    let names = names_of c.args.keys.now in
-    let marks = c.in_ok-is_defined.is_defined.items in
-    let everywhere = rows_of c.loop-number.found.everywhere in
-    let outside = rows_of c.loop-number.found.outside in
-    let size : c.len.result ≡ suc (length names) = omega (arith, c.len.ensures, r.size) in
-    let done : c.loop-number.number ≡ suc (length names) = omega (arith, c.loop-number-test.false, c.loop-number.auto.number-end, c.len-number-end.ensures, r.size) in
-    c.undefined_name.ensures cs
-    (gathered_some names cs (key_numbers c.args.defined.now) d marks (subst (λ n. AreMarksOf (key_numbers c.args.defined.now) n marks) size c.in_ok-is_defined.ensures) everywhere outside (c.loop-number.invariant.everywhere_size ∙ done) (c.loop-number.invariant.outside_size ∙ done) c.in-Some.name.now
-    (subst (λ n. Gathered names cs marks everywhere outside n (Some c.in-Some.name.now)) done
-    (subst (λ o. Gathered names cs marks everywhere outside c.loop-number.number (option_map (λ t. t.now) o)) c.in-Some.is (c.loop-number.invariant.gathered modules cs s r x))))
+    rows_or_least names cs (key_numbers c.args.defined.now) d marks (subst (λ n. AreMarksOf (key_numbers c.args.defined.now) n marks) size c.in_ok-is_defined.ensures) c.loop-number.found (c.loop-number.invariant.everywhere_size ∙ done) (c.loop-number.invariant.outside_size ∙ done)
+    (option_map (λ t. t.now) c.loop-number.undefined)
+    (subst (λ n. Gathered names cs marks everywhere outside n (option_map (λ t. t.now) c.loop-number.undefined)) done (c.loop-number.invariant.gathered modules cs s r x))
