@@ -1,6 +1,15 @@
 // What stands against combining a set, all of it (RELAX NG 2001, 4.7, 4.17 and 4.18).
-ghost use Rattle.std.specs.Prelude.{◌≡◌, ◌<◌, length};
-ghost use Rattle.rn_assemble.specs.inside.Pieces.{AreAllPieces, AreKnown, AreKnownBy, IsKnownRow};
+ghost use Rattle.std.specs.Prelude.{◌≡◌, ◌<◌, ◌∷◌, [], List, IfOk, IsTrue, length};
+ghost use Rattle.rn_text.specs.Texts.{Text};
+ghost use Rattle.rn_assemble.specs.Components.{Component, NamedModule};
+ghost use Rattle.rn_assemble.specs.Diagnosed.{AreFindings, finding_refusal, key_numbered};
+ghost use Rattle.rn_assemble.specs.Refusal as refusals;
+ghost use Rattle.rn_assemble.specs.inside.Checked.{AreExpanded};
+ghost use Rattle.rn_assemble.specs.inside.Diagnosing.{AddsLack, AddsLacks, AddsRank, AreLacks, KeepsLacks, OfExpanded};
+ghost use Rattle.rn_assemble.specs.inside.Pieces.{AreAllPieces, AreKnown, AreKnownBy, IsKnownRow, OfRow, overrides_in};
+ghost use Rattle.rn_assemble.specs.inside.Rows.{AreRows};
+ghost use Rattle.rn_assemble.specs.inside.Runs.{IsOrderedRow};
+ghost use Rattle.rn_assemble.specs.inside.Segments.{AreSegmentsOf, IsLackOf};
 ghost use Rattle.rn_assemble.specs.inside.Views.{names_of};
 
 use super::occurrences::{Occurrence, depths_of, occurrences, parting_includes};
@@ -65,26 +74,61 @@ pub(crate) fn findings<'s>(
     segments: &Segments<'_, '_, '_>,
 ) -> Result<Vec<Finding<'s>>, AllocError>
     requires { AreKnownBy (names_of keys.now) rows.now segments.now }
+    ensures { (modules : List NamedModule) → AreExpanded modules (names_of keys.now) rows.now segments.now
+        → IfOk result (λ found. AreFindings modules ([] ∷ names_of keys.now) found.items) }
 {
     let mut found = Vec::new(alloc);
-    for lack in lacks_of(alloc, rows, segments)? {
+    push_overrides(alloc, rows, segments, &mut found)?;
+    let depths = depths_of(alloc, segments)?;
+    push_plain_twice(alloc, rows, segments, &depths, &mut found)?;
+    push_mixed(alloc, rows, segments, &depths, &mut found)?;
+    push_no_start(alloc, rows, segments, &mut found)?;
+    push_undefined_names(alloc, keys, rows, segments, &mut found)?;
+    Ok(found)
+}
+
+/// Adds the includes' definitions of what the included modules lack.
+fn push_overrides(
+    alloc: Global,
+    rows: &KeyRows<'_>,
+    segments: &Segments<'_, '_, '_>,
+    found: &mut Vec<Finding<'_>>,
+) -> Result<(), AllocError>
+    requires { AreKnown rows.now segments.now }
+    ensures { OfExpanded rows.now segments.now (λ modules names. IfOk result (λ _.
+        AddsRank modules names 5 found.old.items found.new.items)) }
+{
+    let lacks = lacks_of(alloc, rows, segments)?;
+    for lack in &lacks {
         found.push(Finding::Override {
             key: lack.key,
             component: lack.component,
             include: lack.include,
         })?;
     }
-    let depths = depths_of(alloc, segments)?;
-    push_plain_twice(alloc, rows, segments, &depths, &mut found)?;
-    push_mixed(alloc, rows, segments, &depths, &mut found)?;
-    push_no_start(alloc, rows, segments, &mut found)?;
-    for undefined in undefined_names(alloc, keys, rows, segments)? {
+    Ok(())
+}
+
+/// Adds the names that are referred to and not defined.
+fn push_undefined_names<'s>(
+    alloc: Global,
+    keys: &Keys<'s>,
+    rows: &KeyRows<'s>,
+    segments: &Segments<'_, '_, '_>,
+    found: &mut Vec<Finding<'s>>,
+) -> Result<(), AllocError>
+    requires { AreKnownBy (names_of keys.now) rows.now segments.now }
+    ensures { (modules : List NamedModule) → AreExpanded modules (names_of keys.now) rows.now segments.now
+        → IfOk result (λ _. AddsRank modules (names_of keys.now) 9 found.old.items found.new.items) }
+{
+    let names = undefined_names(alloc, keys, rows, segments)?;
+    for undefined in &names {
         found.push(Finding::Undefined {
             name: undefined.name,
             reference: undefined.reference,
         })?;
     }
-    Ok(found)
+    Ok(())
 }
 
 /// An include's definition of a key that the included module lacks.
@@ -102,6 +146,10 @@ fn lacks_of(
     segments: &Segments<'_, '_, '_>,
 ) -> Result<Vec<Lack>, AllocError>
     requires { AreKnown rows.now segments.now }
+    ensures { (modules : List NamedModule) (names : List Text) (cs : List Component)
+        → AreRows modules names rows.now.rows.items → AreSegmentsOf modules segments.now cs
+        → IfOk result (λ found. AreLacks modules names segments.now (length rows.now.rows.items)
+        found.items) }
 {
     let mut found = Vec::new(alloc);
     let mut pieces = Vec::new(alloc);
@@ -117,10 +165,12 @@ fn lacks_of(
 }
 
 /// Puts the lacks in the order of modules, keys and definitions, and leaves the first of each module and key.
-fn put_in_order(found: &mut Vec<Lack>) -> Result<(), AllocError> {
-    found.sort_by_key(|lack: &Lack| (lack.component.module, lack.key, lack.component.number))?;
+fn put_in_order(found: &mut Vec<Lack>) -> Result<(), AllocError>
+    ensures { IfOk result (λ _. KeepsLacks found.old.items found.new.items) }
+{
+    found.sort_by_key(|lack: &Lack| (lack.include.module, lack.key, lack.component.number))?;
     found.dedup_by(|later, before| {
-        later.component.module == before.component.module && later.key == before.key
+        later.include.module == before.include.module && later.key == before.key
     });
     Ok(())
 }
@@ -135,6 +185,9 @@ fn push_lacks(
 ) -> Result<(), AllocError>
     requires known { IsKnownRow row.now segments.now }
     requires all { AreAllPieces segments.now.list.items row.now pieces.now }
+    ensures { OfRow row.now segments.now (λ modules k cs. IfOk result (λ _. AddsLacks
+        (λ b. IsLackOf modules segments.now.list.items b k) key.0 segments.now.brought.items
+        found.old.items found.new.items)) }
 {
     for include in &segments.brought {
         if lacks(row, pieces, include) {
@@ -150,7 +203,11 @@ fn push_lack(
     row: &[WrittenComponent<'_>],
     include: &FollowedInclude,
     found: &mut Vec<Lack>,
-) -> Result<(), AllocError> {
+) -> Result<(), AllocError>
+    requires row_ordered { IsOrderedRow row.now }
+    requires overrides { IsTrue (overrides_in row.now include.now) }
+    ensures { IfOk result (λ _. AddsLack key.0 include.now found.old.items found.new.items) }
+{
     if let Some(component) = first_own(row, include) {
         found.push(Lack {
             key,
@@ -174,6 +231,8 @@ fn push_plain_twice(
 ) -> Result<(), AllocError>
     requires known { AreKnown rows.now segments.now }
     requires depths { length depths.now ≡ length segments.now.list.items }
+    ensures { OfExpanded rows.now segments.now (λ modules names. IfOk result (λ _.
+        AddsRank modules names 6 found.old.items found.new.items)) }
 {
     let mut pieces = Vec::new(alloc);
     for number in 0..rows.len() {
@@ -198,6 +257,8 @@ fn plain_twice<'s>(
 ) -> Finding<'s>
     requires first { first.index < length row.now }
     requires second { second.index < length row.now }
+    ensures { (modules : List NamedModule) (names : List Text)
+        → finding_refusal modules names result ≡ refusals.plain_twice (key_numbered names key.0) }
 {
     let parting = if first.index == second.index {
         parting_includes(segments, first.segment, second.segment)
@@ -222,6 +283,8 @@ fn push_mixed(
 ) -> Result<(), AllocError>
     requires known { AreKnown rows.now segments.now }
     requires depths { length depths.now ≡ length segments.now.list.items }
+    ensures { OfExpanded rows.now segments.now (λ modules names. IfOk result (λ _.
+        AddsRank modules names 7 found.old.items found.new.items)) }
 {
     let mut pieces = Vec::new(alloc);
     for number in 0..rows.len() {
@@ -249,6 +312,8 @@ fn push_no_start(
     found: &mut Vec<Finding<'_>>,
 ) -> Result<(), AllocError>
     requires { AreKnown rows.now segments.now }
+    ensures { OfExpanded rows.now segments.now (λ modules names. IfOk result (λ _.
+        AddsRank modules names 8 found.old.items found.new.items)) }
 {
     let mut pieces = Vec::new(alloc);
     segments.live_pieces(rows.row(START), &mut pieces)?;

@@ -1,7 +1,5 @@
 // Which components of a key come first: those by fewer includes, and then in the order in which they are combined.
-ghost use Rattle.std.specs.Prelude.{◌≡◌, ◌<◌, IfOk, length};
-ghost use Rattle.std.specs.List.{AllByRecursion};
-ghost use Rattle.rn_assemble.specs.declared.including.pieces.Piece as code_piece;
+ghost use Rattle.std.specs.Prelude.{◌≡◌, ◌≤◌, IfOk, length};
 ghost use Rattle.rn_assemble.specs.inside.Diagnosing.{AddsOccurrences, AreOccurrences, AreInList, HasBrought, meets};
 ghost use Rattle.rn_assemble.specs.inside.Pieces.{AreSomePieces};
 

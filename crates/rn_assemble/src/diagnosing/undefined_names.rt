@@ -1,6 +1,9 @@
 // Names that are referred to and not defined, with their first references (RELAX NG 2001, 4.18).
-ghost use Rattle.std.specs.Prelude.{◌≤◌, length};
-ghost use Rattle.rn_assemble.specs.inside.Pieces.{AreKnownBy};
+ghost use Rattle.std.specs.Prelude.{◌≡◌, IfOk, length};
+ghost use Rattle.rn_pattern.specs.declared.adjacency.references.Reach.TheVariants.{Everywhere};
+ghost use Rattle.rn_assemble.specs.inside.Diagnosing.{AddsUnmarked, AreUndefined, KeepsNames};
+ghost use Rattle.rn_assemble.specs.inside.Pieces.{AreKnownBy, OfKeys};
+ghost use Rattle.rn_assemble.specs.inside.Referred.{marked_references, names_within, references_at};
 ghost use Rattle.rn_assemble.specs.inside.Views.{names_of};
 
 use super::places::{ComponentPlace, ReferencePlace};
@@ -13,7 +16,7 @@ use rn_pattern::Reach;
 use std::alloc::{AllocError, Global};
 
 /// A name that nothing defines, and a reference to it.
-#[derive(Clone, Copy, PartialEq, Eq, PartialOrd, Ord)]
+#[derive(Clone, Copy)]
 pub(crate) struct UndefinedName<'s> {
     pub name: &'s str,
     pub reference: ReferencePlace,
@@ -27,21 +30,30 @@ pub(crate) fn undefined_names<'s>(
     segments: &Segments<'_, '_, '_>,
 ) -> Result<Vec<UndefinedName<'s>>, AllocError>
     requires { AreKnownBy (names_of keys.now) rows.now segments.now }
+    ensures { OfKeys keys.now rows.now segments.now (λ names cs. IfOk result (λ found.
+        AreUndefined cs found.items)) }
 {
     let defined = defined_keys(alloc, rows, segments)?;
     let is_defined = marks_of(alloc, rows.len(), &defined)?;
     let mut found = Vec::new(alloc);
     let mut pieces = Vec::new(alloc);
     for number in 0..rows.len() {
-        let key = KeyId(number);
-        let row = rows.row(key);
+        let row = rows.row(KeyId(number));
         segments.live_pieces(row, &mut pieces)?;
         let is_live = live_marks(alloc, row.len(), &pieces)?;
         push_undefined(alloc, keys, &is_defined, row, &is_live, &mut found)?;
     }
-    found.sort()?;
-    found.dedup_by(|later, before| later.name == before.name);
+    put_in_order(&mut found)?;
     Ok(found)
+}
+
+/// Puts the names in order, and leaves the first reference to each.
+fn put_in_order(found: &mut Vec<UndefinedName<'_>>) -> Result<(), AllocError>
+    ensures { IfOk result (λ _. KeepsNames found.old.items found.new.items) }
+{
+    found.sort_by_key(|one: &UndefinedName<'_>| (one.name, one.reference))?;
+    found.dedup_by(|later, before| later.name == before.name);
+    Ok(())
 }
 
 /// Adds the references of components with a mark to names that aren't defined.
@@ -53,7 +65,10 @@ fn push_undefined<'s>(
     is_live: &[bool],
     found: &mut Vec<UndefinedName<'s>>,
 ) -> Result<(), AllocError>
-    requires { length row.now ≤ length is_live.now }
+    requires { length is_live.now ≡ length row.now }
+    ensures { IfOk result (λ _. AddsUnmarked (names_of keys.now) is_defined.now
+        (names_within Everywhere (marked_references is_live.now row.now))
+        found.old.items found.new.items) }
 {
     for index in 0..row.len() {
         if is_live[index] {
@@ -70,18 +85,18 @@ fn push_undefined_of<'s>(
     is_defined: &[bool],
     component: &WrittenComponent<'s>,
     found: &mut Vec<UndefinedName<'s>>,
-) -> Result<(), AllocError> {
+) -> Result<(), AllocError>
+    ensures { IfOk result (λ _. AddsUnmarked (names_of keys.now) is_defined.now
+        (names_within Everywhere (references_at component.now)) found.old.items found.new.items) }
+{
     let mut references = Vec::new(alloc);
     refer(&component.body, Reach::OutsideElements, &mut references)?;
-    for (number, reference) in references.iter().enumerate() {
-        if !has_mark(is_defined, keys.find(reference.name)) {
-            found.push(UndefinedName {
-                name: reference.name,
-                reference: ReferencePlace {
-                    component: ComponentPlace::of(component),
-                    number,
-                },
-            })?;
+    for number in 0..references.len() {
+        let name = references[number].name;
+        if !has_mark(is_defined, keys.find(name)) {
+            let component = ComponentPlace::of(component);
+            let reference = ReferencePlace { component, number };
+            found.push(UndefinedName { name, reference })?;
         }
     }
     Ok(())
