@@ -108,7 +108,7 @@ module _ (names : List Text) (cs : List Component) (keys : List ℕ) (defined : 
 
   -- a name without a mark that a key refers to is undefined, and each undefined name is one
   pub unmarked_undefined : (x : Text) (k : ℕ) → RefersTo x (joined_pattern cs (key_at names k)) → ¬ IsMarkedName names marks x → IsUndefined G x
-  unmarked_undefined x k r no = (at_referred x k r, is_none (definition_of G x) (λ d. no (defined_marked names cs keys defined marks are x d)))
+  unmarked_undefined x k r never = (at_referred x k r, is_none (definition_of G x) (λ d. never (defined_marked names cs keys defined marks are x d)))
 
   pub undefined_unmarked : (x : Text) → IsUndefined G x → (k : ℕ) × (k < suc (length names)) × RefersTo x (joined_pattern cs (key_at names k)) × ¬ IsMarkedName names marks x
   undefined_unmarked x u = let k = referred_at x u.0 in (k.0, k.1, k.2, unmarked x u.1)

@@ -293,11 +293,11 @@ fn push_mixed(
         segments.live_pieces(row, &mut pieces)?;
         let choices = occurrences(alloc, row, &pieces, depths, Some(Method::Choice))?;
         let interleaves = occurrences(alloc, row, &pieces, depths, Some(Method::Interleave))?;
-        if let (Some(choice), Some(interleave)) = (choices.first(), interleaves.first()) {
+        if !choices.is_empty() && !interleaves.is_empty() {
             found.push(Finding::MixedMethods {
                 key,
-                choice: ComponentPlace::of(&row[choice.index]),
-                interleave: ComponentPlace::of(&row[interleave.index]),
+                choice: ComponentPlace::of(&row[choices[0].index]),
+                interleave: ComponentPlace::of(&row[interleaves[0].index]),
             })?;
         }
     }

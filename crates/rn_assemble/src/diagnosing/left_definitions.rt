@@ -53,7 +53,8 @@ fn push_first_occurrences(
     pieces: &[Piece],
     firsts: &mut Vec<FirstOccurrence>,
 ) -> Result<(), AllocError>
-    requires { AllByRecursion (λ (p : code_piece.Piece). p.to ≤ length row.now) pieces.now }
+    requires { AllByRecursion (λ (p : code_piece.Piece). (p.from ≤ p.to) × (p.to ≤ length row.now))
+        pieces.now }
 {
     let mut is_met = vec![in alloc; false; row.len()]?;
     for piece in pieces {

@@ -50,7 +50,8 @@ fn push_occurrences(
     method: Option<Method>,
     found: &mut Vec<Occurrence>,
 ) -> Result<(), AllocError>
-    requires { piece.now.to ≤ length row.now }
+    requires ordered { piece.now.from ≤ piece.now.to }
+    requires within { piece.now.to ≤ length row.now }
     ensures { IfOk result (λ _. AddsOccurrences row.now piece.now (meets method) found.old.items
         found.new.items) }
 {

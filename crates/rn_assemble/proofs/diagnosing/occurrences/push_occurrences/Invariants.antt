@@ -1,6 +1,6 @@
 -- The components of the piece so far that pass were added.
 use Rattle.rn_assemble.specs.inside.Diagnosing.{meets}
-use Rattle.rn_assemble.proofs.Diagnosing.Occurrences.{AddsUpTo}
+use Rattle.rn_assemble.proofs.Diagnoses.Occurrences.{AddsUpTo}
 use Rattle.rn_assemble.proofs.diagnosing.occurrences.push_occurrences.Given as goal
 
 abbrev pub invariant-loop-index : goal.invariant-loop-index

@@ -1,5 +1,5 @@
 -- Overrides of what isn't there, gathered include by include and key by key.
-use Rattle.std.proofs.Common.{◌≡◌, ℕ, suc, ◌+◌, ◌<◌, ⊎_elim, inl, inr, false, true, List, [], ◌∷◌, ◌++◌, length, take, get_or, map, refl, sym, ap, ◌∙◌, subst, arith, append_assoc, append-nil, tt}
+use Rattle.std.proofs.Common.{◌≡◌, ℕ, suc, ◌+◌, ◌<◌, ⊎_elim, inl, inr, false, true, List, [], ◌∷◌, ◌++◌, length, take, get_or, map, refl, sym, ap, ◌∙◌, subst, arith, append_assoc, append-nil}
 use Rattle.std.specs.Prelude.{Contains, IsPermutation}
 use Rattle.std.specs.List.{AllByRecursion}
 use Rattle.std.proofs.lemmas.Bool.{cases_lt}
@@ -37,11 +37,11 @@ module _ (P : FollowedInclude → Type 0) (key : ℕ) where
 
   module _ (bs : List FollowedInclude) (b : FollowedInclude) (old new : List Lack) (h : AddsLacks P key bs old new) where
     pub lack_passed : ¬ P b → AddsLacks P key (bs ++ b ∷ []) old new
-    lack_passed no = record {
+    lack_passed never = record {
       added = h.added;
       new_is = h.new_is;
       each = λ l c. let (d, among, is) = h.each l c in (d, Contains-append_left bs (b ∷ []) d among, is);
-      all = λ d c p. ⊎_elim (λ k. h.all d k p) (λ e. absurd (no (subst P (sym e) p))) (Contains-push_cases bs b d c);
+      all = λ d c p. ⊎_elim (λ k. h.all d k p) (λ e. absurd (never (subst P (sym e) p))) (Contains-push_cases bs b d c);
     }
 
     pub lack_met : P b → (more : List Lack) → AddsLack key b new more → AddsLacks P key (bs ++ b ∷ []) old more

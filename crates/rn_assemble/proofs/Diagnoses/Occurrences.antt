@@ -1,5 +1,5 @@
 -- The components of pieces that pass a test of methods, gathered one after the other.
-use Rattle.std.proofs.Common.{◌≡◌, ℕ, ◌+◌, ◌-◌, ◌<◌, ◌≤◌, inl, inr, ⊎_elim, Bool, true, false, List, [], ◌∷◌, ◌++◌, length, take, drop, get_or, Some, refl, sym, ap, ◌∙◌, subst, arith, append_assoc, append-nil, length-append, length-drop, tt}
+use Rattle.std.proofs.Common.{◌≡◌, ℕ, ◌+◌, ◌-◌, ◌<◌, ◌≤◌, inl, inr, ⊎_elim, Bool, true, false, List, [], ◌∷◌, ◌++◌, length, take, drop, get_or, Some, refl, sym, ap, ◌∙◌, subst, arith, append_assoc, append-nil, length-append, length-drop}
 use Rattle.std.specs.Prelude.{Contains, count_by, slice_get, slice_range, sum_by}
 use Rattle.std.specs.List.{AllByRecursion}
 use Rattle.std.specs.Prelude.{IsPermutation}
@@ -18,9 +18,6 @@ use Rattle.rn_assemble.specs.inside.Diagnosing.{AddsOccurrences, AreOccurrences,
 use Rattle.rn_assemble.proofs.Expansion.Ranges.{range_none}
 
 module _ (row : List code.WrittenComponent) (test : Method → Bool) where
-  passes : code.WrittenComponent → Bool
-  passes w = test w.method
-
   -- ---- in a piece
 
   module _ (p : Piece) where
@@ -36,7 +33,7 @@ module _ (row : List code.WrittenComponent) (test : Method → Bool) where
     none_yet old = record { from = omega arith; added = []; new_is = sym (append-nil old); each = tt; size = ap (count_by (λ (w : code.WrittenComponent). test w.method)) (sym (range_none row p.from)) }
 
     module _ (old new : List Occurrence) (i : ℕ) (w : code.WrittenComponent) (at : slice_get row i ≡ Some w) (h : AddsUpTo old i new) where
-      place : ℕ
+      abbrev place : ℕ
       place = i - p.from
 
       next : i + 1 - p.from ≡ place + 1
@@ -49,16 +46,16 @@ module _ (row : List code.WrittenComponent) (test : Method → Bool) where
       read = let e : p.from + place ≡ i = omega (arith, h.from) in get_or-drop p.from row place w ∙ ap (λ n. get_or row n w) e ∙ get_or_from_slice_get row i w w at
 
       pub passed : test w.method ≡ false → AddsUpTo old (i + 1) new
-      passed no = record {
+      passed never = record {
         from = omega (arith, h.from);
         added = h.added;
         new_is = h.new_is;
         each = h.each;
-        size = h.size ∙ sym (ap (λ n. count_by (λ (v : code.WrittenComponent). test v.method) (take n (drop p.from row))) next ∙ count_by_more_no (λ (v : code.WrittenComponent). test v.method) (drop p.from row) place w there (ap (λ (v : code.WrittenComponent). test v.method) read ∙ no));
+        size = h.size ∙ sym (ap (λ n. count_by (λ (v : code.WrittenComponent). test v.method) (take n (drop p.from row))) next ∙ count_by_more_no (λ (v : code.WrittenComponent). test v.method) (drop p.from row) place w there (ap (λ (v : code.WrittenComponent). test v.method) read ∙ never));
       }
 
       pub met : test w.method ≡ true → (o : Occurrence) → o.segment ≡ p.segment → o.index ≡ i → i < p.to → (more : List Occurrence) → more ≡ new ++ o ∷ [] → AddsUpTo old (i + 1) more
-      met yes o segment index below more is = record {
+      met holds o segment index below more is = record {
         from = omega (arith, h.from);
         added = h.added ++ o ∷ [];
         new_is = is ∙ ap (λ l. l ++ o ∷ []) h.new_is ∙ append_assoc old h.added (o ∷ []);
@@ -68,9 +65,9 @@ module _ (row : List code.WrittenComponent) (test : Method → Bool) where
           to = omega (arith, below, index);
           component = w;
           at = ap (slice_get row) index ∙ at;
-          passes = yes;
+          passes = holds;
         }, tt);
-        size = length_push h.added o ∙ ap (λ n. n + 1) h.size ∙ sym (ap (λ n. count_by (λ (v : code.WrittenComponent). test v.method) (take n (drop p.from row))) next ∙ count_by_more_yes (λ (v : code.WrittenComponent). test v.method) (drop p.from row) place w there (ap (λ (v : code.WrittenComponent). test v.method) read ∙ yes));
+        size = length_push h.added o ∙ ap (λ n. n + 1) h.size ∙ sym (ap (λ n. count_by (λ (v : code.WrittenComponent). test v.method) (take n (drop p.from row))) next ∙ count_by_more_yes (λ (v : code.WrittenComponent). test v.method) (drop p.from row) place w there (ap (λ (v : code.WrittenComponent). test v.method) read ∙ holds));
       }
 
     pub all_added : (old new : List Occurrence) → AddsUpTo old p.to new → AddsOccurrences row p test old new
@@ -78,7 +75,7 @@ module _ (row : List code.WrittenComponent) (test : Method → Bool) where
 
   -- ---- in pieces
 
-  InOneOf : List Piece → Occurrence → Type 0
+  abbrev InOneOf : List Piece → Occurrence → Type 0
   InOneOf pieces o = (p : Piece) × Contains pieces p × IsInPiece row test p o
 
   pub of_none : AreOccurrences row [] test []

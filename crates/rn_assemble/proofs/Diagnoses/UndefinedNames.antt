@@ -31,9 +31,9 @@ module _ (names : List Text) (marks : List Bool) where
       | inl before ↦ elim (h.each u before) [ inl held ↦ inl held | inr new ↦ inr (Contains-append_left xs ys u.name.now new.0, new.1) ]
       | inr new ↦ inr (Contains-append_right xs ys u.name.now new.0, new.1)
     ];
-    all = λ x k no. elim (Contains-append_cases xs ys x k) [
-      | inl l ↦ let (u, among, is) = h.all x l no in (u, g.kept u among, is)
-      | inr r ↦ g.all x r no
+    all = λ x k never. elim (Contains-append_cases xs ys x k) [
+      | inl l ↦ let (u, among, is) = h.all x l never in (u, g.kept u among, is)
+      | inr r ↦ g.all x r never
     ];
   }
 
@@ -42,16 +42,16 @@ module _ (names : List Text) (marks : List Bool) where
   unmarked_passed x m us = record {
     kept = λ u c. c;
     each = λ u c. inl c;
-    all = λ y c no. absurd (no (subst (IsMarkedName names marks) (sym (only x y c)) m));
+    all = λ y c never. absurd (never (subst (IsMarkedName names marks) (sym (only x y c)) m));
   }
     where
       only : (x y : Text) → Contains (x ∷ []) y → y ≡ x
       only x y c = ⊎_elim (λ e. sym e) (λ k. absurd (omega (arith, k.1))) (contains_cases x y [] c)
 
   pub unmarked_met : (x : Text) → ¬ IsMarkedName names marks x → (us new : List UndefinedName) (u : UndefinedName) → u.name.now ≡ x → new ≡ us ++ u ∷ [] → AddsUnmarked names marks (x ∷ []) us new
-  unmarked_met x no us new u is e = record {
+  unmarked_met x never us new u is e = record {
     kept = λ v c. subst (λ vs. Contains vs v) (sym e) (Contains-append_left us (u ∷ []) v c);
-    each = λ v c. ⊎_elim (λ k. inl k) (λ same. inr (subst (Contains (x ∷ [])) (sym is ∙ ap (λ (w : UndefinedName). w.name.now) same) (contains_front x []), subst (λ y. ¬ IsMarkedName names marks y) (sym is ∙ ap (λ (w : UndefinedName). w.name.now) same) no)) (Contains-push_cases us u v (subst (λ vs. Contains vs v) e c));
+    each = λ v c. ⊎_elim (λ k. inl k) (λ same. inr (subst (Contains (x ∷ [])) (sym is ∙ ap (λ (w : UndefinedName). w.name.now) same) (contains_front x []), subst (λ y. ¬ IsMarkedName names marks y) (sym is ∙ ap (λ (w : UndefinedName). w.name.now) same) never)) (Contains-push_cases us u v (subst (λ vs. Contains vs v) e c));
     all = λ y c n. (u, subst (λ vs. Contains vs u) (sym e) (Contains-push us u), is ∙ ⊎_elim (λ same. same) (λ k. absurd (omega (arith, k.1))) (contains_cases x y [] c));
   }
 
@@ -69,19 +69,19 @@ module _ (names : List Text) (cs : List Component) (marks : List Bool) where
   pub more_below : (n : ℕ) (us new : List UndefinedName) (texts : List Text) → ((y : Text) → Contains texts y ↔ RefersTo y (joined_pattern cs (key_at names n))) → AddsUnmarked names marks texts us new → AreUnmarkedBelow n us → AreUnmarkedBelow (n + 1) new
   more_below n us new texts t a h = record {
     each = λ u c. ⊎_elim (h.each u) (λ k. (n, (t u.name.now).0 k.0, k.1)) (a.each u c);
-    all = λ k x l r no. elim (cases_lt k n) [
-      | inl less ↦ let (u, among, is) = h.all k x less r no in (u, a.kept u among, is)
-      | inr more ↦ let same : k ≡ n = omega (arith, l, more) in a.all x ((t x).1 (subst (λ i. RefersTo x (joined_pattern cs (key_at names i))) same r)) no
+    all = λ k x l r never. elim (cases_lt k n) [
+      | inl less ↦ let (u, among, is) = h.all k x less r never in (u, a.kept u among, is)
+      | inr more ↦ let same : k ≡ n = omega (arith, l, more) in a.all x ((t x).1 (subst (λ i. RefersTo x (joined_pattern cs (key_at names i))) same r)) never
     ];
   }
 
   -- those of all keys, in order, are the undefined names
   pub are_undefined : (keys : List ℕ) → AreDefinedKeys names cs keys → AreMarksOf keys (suc (length names)) marks → (bound : ℕ) → bound ≡ suc (length names) → (us new : List UndefinedName) → AreUnmarkedBelow bound us → KeepsNames us new → AreUndefined cs new
   are_undefined keys defined of_keys bound size us new h k = record {
-    each = λ u c. let (n, r, no) = h.each u (k.each u c) in unmarked_undefined names cs keys defined marks of_keys u.name.now n r no;
+    each = λ u c. let (n, r, never) = h.each u (k.each u c) in unmarked_undefined names cs keys defined marks of_keys u.name.now n r never;
     all = λ x i.
-        let (n, l, r, no) = undefined_unmarked names cs keys defined marks of_keys x i in
-        let (u, among, is) = h.all n x (omega (arith, l, size)) r no in
+        let (n, l, r, never) = undefined_unmarked names cs keys defined marks of_keys x i in
+        let (u, among, is) = h.all n x (omega (arith, l, size)) r never in
         let (v, there, same) = k.all u among in
         (v, there, same ∙ is);
   }

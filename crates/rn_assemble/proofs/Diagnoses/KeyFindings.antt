@@ -1,5 +1,5 @@
 -- Findings that are gathered key by key: what they say is true, and of each key of which something is true one says so.
-use Rattle.std.proofs.Common.{◌≡◌, ℕ, suc, ◌+◌, ◌<◌, inl, inr, false, true, List, [], ◌∷◌, ◌++◌, length, refl, sym, ap, ◌∙◌, subst, arith, append_assoc, append-nil, tt}
+use Rattle.std.proofs.Common.{◌≡◌, ℕ, suc, ◌+◌, ◌<◌, inl, inr, false, true, List, [], ◌∷◌, ◌++◌, length, refl, sym, ap, ◌∙◌, subst, arith, append_assoc, append-nil}
 use Rattle.std.specs.Prelude.{Contains}
 use Rattle.std.specs.List.{AllByRecursion}
 use Rattle.std.proofs.lemmas.Bool.{cases_lt, false≢true}
@@ -19,10 +19,7 @@ use Rattle.rn_assemble.proofs.KeyFaults.KeysOfPieces.{mixed_number, plain_number
 use Rattle.rn_assemble.proofs.Naming.KnownKeys.{HasNumber}
 
 module _ (modules : List NamedModule) (names : List Text) (make : Key → Refusal) where
-  said : Finding → Refusal
-  said f = finding_refusal modules ([] ∷ names) f
-
-  IsTrue : Finding → Type 0
+  abbrev IsTrue : Finding → Type 0
   IsTrue f = IsTrueFor modules (finding_refusal modules ([] ∷ names) f)
 
   pub none_below : (old : List Finding) → AddsBelow modules names make 0 old old
@@ -43,13 +40,13 @@ module _ (modules : List NamedModule) (names : List Text) (make : Key → Refusa
 
     -- none of this key
     pub none_more : ¬ IsTrueFor modules (make (key_at names n)) → AddsBelow modules names make (n + 1) old new
-    none_more no = record {
+    none_more never = record {
       added = h.added;
       new_is = h.new_is;
       true_of = h.true_of;
       all = λ m l t. elim (cases_lt m n) [
         | inl less ↦ h.all m less t
-        | inr more ↦ let same : m ≡ n = omega (arith, l, more) in absurd (no (subst (λ i. IsTrueFor modules (make (key_at names i))) same t))
+        | inr more ↦ let same : m ≡ n = omega (arith, l, more) in absurd (never (subst (λ i. IsTrueFor modules (make (key_at names i))) same t))
       ];
     }
 
@@ -82,7 +79,7 @@ module _ (modules : List NamedModule) (names : List Text) where
   abbrev SaysIn : List Finding → Refusal → Type 0
   SaysIn fs q = (f : Finding) × Contains fs f × (finding_refusal modules ([] ∷ names) f ≡ q)
 
-  IsTrueFinding : Finding → Type 0
+  abbrev IsTrueFinding : Finding → Type 0
   IsTrueFinding f = IsTrueFor modules (finding_refusal modules ([] ∷ names) f)
 
   said_before : (r : ℕ) (old new : List Finding) → AddsRank modules names r old new → (q : Refusal) → SaysIn old q → SaysIn new q
@@ -111,14 +108,14 @@ module _ (modules : List NamedModule) (names : List Text) where
 
   -- the start: nothing is added where there is one, and a finding where there is none
   pub start_there : (old : List Finding) → has_key start_key (set_components modules) ≡ true → AddsRank modules names 8 old old
-  start_there old yes = record { added = []; new_is = sym (append-nil old); true_of = tt; all = none }
+  start_there old holds = record { added = []; new_is = sym (append-nil old); true_of = tt; all = none }
     where
       none : (q : Refusal) → rank q ≡ 8 → IsTrueFor modules q → SaysIn [] q
-      none no_start e t = absurd (false≢true (sym t ∙ yes))
+      none no_start e t = absurd (false≢true (sym t ∙ holds))
       none q e t = absurd (omega (arith, e))
 
   pub start_missing : (old new : List Finding) (f : Finding) → finding_refusal modules ([] ∷ names) f ≡ no_start → has_key start_key (set_components modules) ≡ false → new ≡ old ++ f ∷ [] → AddsRank modules names 8 old new
-  start_missing old new f says no e = record { added = f ∷ []; new_is = e; true_of = (subst (IsTrueFor modules) (sym says) no, tt); all = one }
+  start_missing old new f says never e = record { added = f ∷ []; new_is = e; true_of = (subst (IsTrueFor modules) (sym says) never, tt); all = one }
     where
       one : (q : Refusal) → rank q ≡ 8 → IsTrueFor modules q → SaysIn (f ∷ []) q
       one no_start e t = (f, contains_front f [], says)

@@ -4,3 +4,5 @@ pub mod KeyFindings
 pub mod Lacks
 pub mod KnownSegments
 pub mod UndefinedNames
+pub mod Deduped
+pub mod CountedMethods
