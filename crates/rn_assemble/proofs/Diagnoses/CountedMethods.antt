@@ -21,28 +21,26 @@ module _ {X : Type 0} (test : X → Bool) where
   counted_more : (x : X) (xs : List X) (b : Bool) → test x ≡ b → count_by test (x ∷ xs) ≡ cond b 1 0 + count_by test xs
   counted_more x xs b e = sum_by-cons (λ y. cond {A = ℕ} (test y) 1 0) x xs ∙ ap (λ t. cond t 1 0 + count_by test xs) e
 
-  mutual
-    pub any_counted : (xs : List X) → list_any test xs ≡ true → 0 < count_by test xs
-    any_counted [] h = absurd (false≢true h)
-    any_counted (x ∷ xs) h = any_counted_at x xs (test x) refl h
+  any_counted_at : (x : X) (xs : List X) (b : Bool) → test x ≡ b → (list_any test xs ≡ true → 0 < count_by test xs) → (test x || list_any test xs) ≡ true → 0 < count_by test (x ∷ xs)
+  any_counted_at x xs true e rest h = let more = counted_more x xs true e in omega (arith, more)
+  any_counted_at x xs false e rest h =
+      let more = counted_more x xs false e in
+      let some = rest (sym (ap (λ t. t || list_any test xs) e) ∙ h) in
+      omega (arith, more, some)
 
-    any_counted_at : (x : X) (xs : List X) (b : Bool) → test x ≡ b → (test x || list_any test xs) ≡ true → 0 < count_by test (x ∷ xs)
-    any_counted_at x xs true e h = let more = counted_more x xs true e in omega (arith, more)
-    any_counted_at x xs false e h =
-        let more = counted_more x xs false e in
-        let rest = any_counted xs (sym (ap (λ t. t || list_any test xs) e) ∙ h) in
-        omega (arith, more, rest)
+  pub any_counted : (xs : List X) → list_any test xs ≡ true → 0 < count_by test xs
+  any_counted [] h = absurd (false≢true h)
+  any_counted (x ∷ xs) h = any_counted_at x xs (test x) refl (any_counted xs) h
 
-  mutual
-    pub counted_any : (xs : List X) → 0 < count_by test xs → list_any test xs ≡ true
-    counted_any [] l = absurd (omega (arith, l))
-    counted_any (x ∷ xs) l = counted_any_at x xs (test x) refl l
+  counted_any_at : (x : X) (xs : List X) (b : Bool) → test x ≡ b → (0 < count_by test xs → list_any test xs ≡ true) → 0 < count_by test (x ∷ xs) → (test x || list_any test xs) ≡ true
+  counted_any_at x xs true e rest l = ap (λ t. t || list_any test xs) e
+  counted_any_at x xs false e rest l =
+      let more = counted_more x xs false e in
+      ap (λ t. t || list_any test xs) e ∙ rest (omega (arith, more, l))
 
-    counted_any_at : (x : X) (xs : List X) (b : Bool) → test x ≡ b → 0 < count_by test (x ∷ xs) → (test x || list_any test xs) ≡ true
-    counted_any_at x xs true e l = ap (λ t. t || list_any test xs) e
-    counted_any_at x xs false e l =
-        let more = counted_more x xs false e in
-        ap (λ t. t || list_any test xs) e ∙ counted_any xs (omega (arith, more, l))
+  pub counted_any : (xs : List X) → 0 < count_by test xs → list_any test xs ≡ true
+  counted_any [] l = absurd (omega (arith, l))
+  counted_any (x ∷ xs) l = counted_any_at x xs (test x) refl (counted_any xs) l
 
 -- ---- of a key
 

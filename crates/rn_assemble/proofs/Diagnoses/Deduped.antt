@@ -13,30 +13,25 @@ module _ {X Y : Type 0} (same : Y → Y → Bool) (at : Y → X) (stands : (x y 
   abbrev StandsIn : List Y → Y → Type 0
   StandsIn zs y = (z : Y) × Contains zs z × (at z ≡ at y)
 
-  mutual
-    left_from : (k : Y) (xs : List Y) (y : Y) → Contains (dedup_from same k xs) y → IsOneOf k xs y
-    left_from k [] y c = contains_cases k y [] c
-    left_from k (x ∷ xs) y c = left_at (same x k) k x xs y c
+  left_at : (b : Bool) (k x : Y) (xs : List Y) (y : Y) → (Contains (dedup_from same k xs) y → IsOneOf k xs y) → (Contains (dedup_from same x xs) y → IsOneOf x xs y) → Contains (cond b (dedup_from same k xs) (k ∷ dedup_from same x xs)) y → IsOneOf k (x ∷ xs) y
+  left_at true k x xs y f g c = ⊎_elim (λ e. inl e) (λ r. inr (contains_behind x y xs r)) (f c)
+  left_at false k x xs y f g c = ⊎_elim (λ e. inl e) (λ r. inr (⊎_elim (λ e. (0, omega arith, e)) (λ d. contains_behind x y xs d) (g r))) (contains_cases k y (dedup_from same x xs) c)
 
-    left_at : (b : Bool) (k x : Y) (xs : List Y) (y : Y) → Contains (cond b (dedup_from same k xs) (k ∷ dedup_from same x xs)) y → IsOneOf k (x ∷ xs) y
-    left_at true k x xs y c = ⊎_elim (λ e. inl e) (λ r. inr (contains_behind x y xs r)) (left_from k xs y c)
-    left_at false k x xs y c = ⊎_elim (λ e. inl e) (λ r. inr (⊎_elim (λ e. first e) (λ d. contains_behind x y xs d) (left_from x xs y r))) (contains_cases k y (dedup_from same x xs) c)
-      where
-        first : x ≡ y → Contains (x ∷ xs) y
-        first e = (0, omega arith, e)
+  left_from : (k : Y) (xs : List Y) (y : Y) → Contains (dedup_from same k xs) y → IsOneOf k xs y
+  left_from k [] y c = contains_cases k y [] c
+  left_from k (x ∷ xs) y c = left_at (same x k) k x xs y (left_from k xs y) (left_from x xs y) c
 
-  mutual
-    stays_from : (k : Y) (xs : List Y) (y : Y) → IsOneOf k xs y → StandsIn (dedup_from same k xs) y
-    stays_from k [] y (inl e) = (k, contains_front k [], ap at e)
-    stays_from k [] y (inr c) = absurd (omega (arith, c.1))
-    stays_from k (x ∷ xs) y h = stays_at (same x k) k x xs y refl (⊎_elim (λ e. inl e) (λ c. inr (contains_cases x y xs c)) h)
+  stays_at : (b : Bool) (k x : Y) (xs : List Y) (y : Y) → same x k ≡ b → ((z : Y) → IsOneOf k xs z → StandsIn (dedup_from same k xs) z) → ((z : Y) → IsOneOf x xs z → StandsIn (dedup_from same x xs) z) → (k ≡ y) ⊎ ((x ≡ y) ⊎ Contains xs y) → StandsIn (cond b (dedup_from same k xs) (k ∷ dedup_from same x xs)) y
+  stays_at true k x xs y e f g (inl h) = f y (inl h)
+  stays_at true k x xs y e f g (inr (inl h)) = let (z, c, is) = f k (inl refl) in (z, c, is ∙ sym (stands x k e) ∙ ap at h)
+  stays_at true k x xs y e f g (inr (inr c)) = f y (inr c)
+  stays_at false k x xs y e f g (inl h) = (k, contains_front k (dedup_from same x xs), ap at h)
+  stays_at false k x xs y e f g (inr h) = let (z, c, is) = g y h in (z, contains_behind k z (dedup_from same x xs) c, is)
 
-    stays_at : (b : Bool) (k x : Y) (xs : List Y) (y : Y) → same x k ≡ b → (k ≡ y) ⊎ ((x ≡ y) ⊎ Contains xs y) → StandsIn (cond b (dedup_from same k xs) (k ∷ dedup_from same x xs)) y
-    stays_at true k x xs y e (inl h) = stays_from k xs y (inl h)
-    stays_at true k x xs y e (inr (inl h)) = let (z, c, is) = stays_from k xs k (inl refl) in (z, c, is ∙ sym (stands x k e) ∙ ap at h)
-    stays_at true k x xs y e (inr (inr c)) = stays_from k xs y (inr c)
-    stays_at false k x xs y e (inl h) = (k, contains_front k (dedup_from same x xs), ap at h)
-    stays_at false k x xs y e (inr h) = let (z, c, is) = stays_from x xs y h in (z, contains_behind k z (dedup_from same x xs) c, is)
+  stays_from : (k : Y) (xs : List Y) (y : Y) → IsOneOf k xs y → StandsIn (dedup_from same k xs) y
+  stays_from k [] y (inl e) = (k, contains_front k [], ap at e)
+  stays_from k [] y (inr c) = absurd (omega (arith, c.1))
+  stays_from k (x ∷ xs) y h = stays_at (same x k) k x xs y refl (stays_from k xs) (stays_from x xs) (⊎_elim (λ e. inl e) (λ c. inr (contains_cases x y xs c)) h)
 
   left_in : (xs : List Y) (y : Y) → Contains (dedup same xs) y → Contains xs y
   left_in [] y c = c

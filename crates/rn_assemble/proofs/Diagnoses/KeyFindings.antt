@@ -1,8 +1,9 @@
 -- Findings that are gathered key by key: what they say is true, and of each key of which something is true one says so.
-use Rattle.std.proofs.Common.{◌≡◌, ℕ, suc, ◌+◌, ◌<◌, inl, inr, false, true, List, [], ◌∷◌, ◌++◌, length, refl, sym, ap, ◌∙◌, subst, arith, append_assoc, append-nil}
+use Rattle.std.proofs.Common.{◌≡◌, ℕ, suc, ◌+◌, ◌<◌, inl, inr, false, true, List, [], ◌∷◌, ◌++◌, length, take, get_or, map, refl, sym, ap, ◌∙◌, subst, arith, append_assoc, append-nil}
 use Rattle.std.specs.Prelude.{Contains}
 use Rattle.std.specs.List.{AllByRecursion}
 use Rattle.std.proofs.lemmas.Bool.{cases_lt, false≢true}
+use Rattle.std.proofs.lemmas.List.{map-append, take_more}
 use Rattle.std.proofs.lemmas.List.Elements.{Contains-append_left, Contains-append_right, Contains-push}
 use Rattle.rn_text.specs.Texts.{Text}
 use Rattle.rn_pattern.proofs.Ordered.Ascending.{each_append}
@@ -57,7 +58,7 @@ module _ (modules : List NamedModule) (names : List Text) (make : Key → Refusa
     new_is = h.new_is;
     true_of = h.true_of;
     all = λ q rank_is t.
-        let (k, is, n, l, key_is) = of_kind q rank_is t in
+        let (k, is, (n, l, key_is)) = of_kind q rank_is t in
         let same : q ≡ make (key_at names n) = is ∙ ap make key_is in
         let (f, among, says) = h.all n (omega (arith, l, e)) (subst (IsTrueFor modules) same t) in
         (f, among, says ∙ sym same);
@@ -120,3 +121,11 @@ module _ (modules : List NamedModule) (names : List Text) where
       one : (q : Refusal) → rank q ≡ 8 → IsTrueFor modules q → SaysIn (f ∷ []) q
       one no_start e t = (f, contains_front f [], says)
       one q e t = absurd (omega (arith, e))
+
+-- ---- what was found, as findings
+
+-- one element more
+pub said_more : {X : Type 0} (f : X → Finding) (xs : List X) (i : ℕ) (d : X) → i < length xs → (old found new : List Finding) → found ≡ old ++ map f (take i xs) → new ≡ found ++ f (get_or xs i d) ∷ [] → new ≡ old ++ map f (take (i + 1) xs)
+said_more f xs i d l old found new h e =
+    e ∙ ap (λ fs. fs ++ f (get_or xs i d) ∷ []) h ∙ append_assoc old (map f (take i xs)) (f (get_or xs i d) ∷ [])
+    ∙ ap (λ fs. old ++ fs) (sym (ap (map f) (take_more xs i d l) ∙ map-append f (take i xs) (get_or xs i d ∷ [])))

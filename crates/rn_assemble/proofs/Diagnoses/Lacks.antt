@@ -1,5 +1,5 @@
 -- Overrides of what isn't there, gathered include by include and key by key.
-use Rattle.std.proofs.Common.{◌≡◌, ℕ, suc, ◌+◌, ◌<◌, ⊎_elim, inl, inr, false, true, List, [], ◌∷◌, ◌++◌, length, take, get_or, map, refl, sym, ap, ◌∙◌, subst, arith, append_assoc, append-nil}
+use Rattle.std.proofs.Common.{◌≡◌, ℕ, zero, suc, ◌+◌, ◌<◌, ⊎_elim, inl, inr, false, true, List, [], ◌∷◌, ◌++◌, length, take, get_or, map, refl, sym, ap, ◌∙◌, subst, arith, append_assoc, append-nil}
 use Rattle.std.specs.Prelude.{Contains, IsPermutation}
 use Rattle.std.specs.List.{AllByRecursion}
 use Rattle.std.proofs.lemmas.Bool.{cases_lt}
@@ -26,7 +26,7 @@ use Rattle.rn_assemble.proofs.Referring.ListMembers.{map_contained, map_contains
 
 -- the key of a number, with and without the start among the names
 pub key_is : (names : List Text) (n : ℕ) → key_numbered ([] ∷ names) n ≡ key_at names n
-key_is names 0 = refl
+key_is names zero = refl
 key_is names (suc n) = refl
 
 -- ---- include by include
@@ -40,7 +40,7 @@ module _ (P : FollowedInclude → Type 0) (key : ℕ) where
     lack_passed never = record {
       added = h.added;
       new_is = h.new_is;
-      each = λ l c. let (d, among, is) = h.each l c in (d, Contains-append_left bs (b ∷ []) d among, is);
+      each = λ l c. let (d, among, p, is) = h.each l c in (d, Contains-append_left bs (b ∷ []) d among, p, is);
       all = λ d c p. ⊎_elim (λ k. h.all d k p) (λ e. absurd (never (subst P (sym e) p))) (Contains-push_cases bs b d c);
     }
 
@@ -49,7 +49,7 @@ module _ (P : FollowedInclude → Type 0) (key : ℕ) where
       added = h.added ++ a.lack ∷ [];
       new_is = a.new_is ∙ ap (λ l. l ++ a.lack ∷ []) h.new_is ∙ append_assoc old h.added (a.lack ∷ []);
       each = λ l c. ⊎_elim
-          (λ k. let (d, among, is) = h.each l k in (d, Contains-append_left bs (b ∷ []) d among, is))
+          (λ k. let (d, among, q, is) = h.each l k in (d, Contains-append_left bs (b ∷ []) d among, q, is))
           (λ e. (b, Contains-push bs b, p, subst (IsLackBy key b) e a.is))
           (Contains-push_cases h.added a.lack l c);
       all = λ d c q. ⊎_elim
@@ -84,7 +84,7 @@ module _ (modules : List NamedModule) (names : List Text) (x : Segments) where
         | inr more ↦
             let same : m ≡ n = omega (arith, l, more) in
             let (k, among, is) = a.all b c (subst (λ i. IsLackOf modules x.list.items b (key_at names i)) same lack) in
-            (k, subst (λ ms. Contains ms k) (sym a.new_is) (Contains-append_right ls a.added k among), is.0 ∙ sym same, is.1)
+            (k, subst (λ ms. Contains ms k) (sym a.new_is) (Contains-append_right ls a.added k among), (is.0 ∙ sym same, is.1))
       ];
     }
 
@@ -100,7 +100,7 @@ module _ (modules : List NamedModule) (names : List Text) (x : Segments) where
   pub lacks_kept : (bound : ℕ) (old new : List Lack) → KeepsLacks old new → AreLacks modules names x bound old → AreLacks modules names x bound new
   lacks_kept bound old new k h = record {
     each = λ l c. h.each l (k.each l c);
-    all = λ n l b c lack. let (m, among, is) = h.all n l b c lack in let (w, there, key, at) = k.all m among in (w, there, key ∙ is.0, at ∙ is.1);
+    all = λ n l b c lack. let (m, among, is) = h.all n l b c lack in let (w, there, key, at) = k.all m among in (w, there, (key ∙ is.0, at ∙ is.1));
   }
 
   -- what is said of them
@@ -121,7 +121,7 @@ module _ (modules : List NamedModule) (names : List Text) (x : Segments) where
       every (override y k) e t =
           let i = (expanded.lacks y k).1 t in
           let (n, below, key) = lacked_number modules names x expanded.rows_are.names_are i.include k i.lacks in
-          let (l, among, of_key, of_module) = h.all n (omega (arith, below, size)) i.include i.among (subst (IsLackOf modules x.list.items i.include) key i.lacks) in
+          let (l, among, is) = h.all n (omega (arith, below, size)) i.include i.among (subst (IsLackOf modules x.list.items i.include) key i.lacks) in
           (lack_finding l, map_contains lack_finding ls l among,
-          (λ j. override ((ap (name_at modules) of_module ∙ i.name_is) j) ((key_is names l.key.0 ∙ ap (key_at names) of_key ∙ sym key) j)))
+          (λ j. override ((ap (name_at modules) is.1 ∙ i.name_is) j) ((key_is names l.key.0 ∙ ap (key_at names) is.0 ∙ sym key) j)))
       every q e t = absurd (omega (arith, e))

@@ -98,3 +98,9 @@ module _ (row : List code.WrittenComponent) (test : Method → Bool) where
     each = each_contained (InOneOf pieces) new (λ o c. contained_each (InOneOf pieces) found h.each o (Contains-permutation new found o (IsPermutation-sym found new perm) c));
     size = length_permutation found new perm ∙ h.size;
   }
+
+  -- each is of a component of the row
+  pub occurs_within : (pieces : List Piece) (found : List Occurrence) → AreOccurrences row pieces test found → (i : ℕ) (o : Occurrence) → i < length found → o ≡ get_or found i o → o.index < length row
+  occurs_within pieces found h i o l e =
+      let (p, among, is) = contained_each (InOneOf pieces) found h.each o (i, l, sym e) in
+      slice_get_within row o.index is.component is.at

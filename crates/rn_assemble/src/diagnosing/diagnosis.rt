@@ -1,12 +1,14 @@
 // What a set is made of, and what stands against it.
-ghost use Rattle.std.specs.Prelude.{IfErr, List};
+ghost use Rattle.std.specs.Prelude.{◌≡◌, ◌+◌, ◌<◌, ◌∷◌, [], IfErr, IfOk, List, length};
 ghost use Rattle.std.specs.List.{AllByRecursion};
 ghost use Rattle.rn_assemble.specs.Components as specs;
+ghost use Rattle.rn_assemble.specs.Diagnosed.{AreFindings, key_names};
+ghost use Rattle.rn_assemble.specs.Refusal.{AreModules};
 ghost use Rattle.rn_assemble.specs.Refused.{IsFirstRefusal};
 ghost use Rattle.rn_assemble.specs.inside.Checked.{IsFirstOfModules};
 ghost use Rattle.rn_assemble.specs.inside.Contained.{AreFlat};
 ghost use Rattle.rn_assemble.specs.inside.Pieces.{AreKnownBy, IsKnownRow};
-ghost use Rattle.rn_assemble.specs.inside.Views.{AreInOrder, modules_view, names_of};
+ghost use Rattle.rn_assemble.specs.inside.Views.{AreInOrder, modules_view, names_of, texts_of};
 
 use super::findings::{Finding, findings};
 use super::left_definitions::left_definitions;
@@ -80,6 +82,8 @@ pub fn diagnose<'s>(
     refusal: Option<&Refusal>,
 ) -> Result<Diagnosis<'s>, Refusal>
     ensures err { IfErr result (IsFirstRefusal set.now) }
+    ensures findings { (modules : List specs.NamedModule) → AreModules set.now modules → IfOk result
+        (λ d. AreFindings modules (key_names d) d.findings.items) }
 {
     let modules = read_modules(alloc, set)?;
     diagnose_modules(alloc, modules, refusal, &seed_of(set))
@@ -95,7 +99,9 @@ fn diagnose_modules<'s>(
     requires in_order { AreInOrder modules.items }
     requires flat { AllByRecursion (λ (m : specs.NamedModule). AreFlat m.tree.items)
         (modules_view modules.items) }
-    ensures { IfErr result (IsFirstOfModules (modules_view modules.entry.items)) }
+    ensures err { IfErr result (IsFirstOfModules (modules_view modules.entry.items)) }
+    ensures findings { IfOk result (λ d. AreFindings (modules_view modules.entry.items) (key_names d)
+        d.findings.items) }
 {
     let roots = included_roots(alloc, modules.as_slice())?;
     let keys = Keys::new(alloc, modules.as_slice(), seed)?;
@@ -112,9 +118,12 @@ fn diagnose_modules<'s>(
 }
 
 /// The name of each key.
-fn names_of_keys<'s>(alloc: Global, keys: &Keys<'s>) -> Result<Vec<&'s str>, AllocError> {
+fn names_of_keys<'s>(alloc: Global, keys: &Keys<'s>) -> Result<Vec<&'s str>, AllocError>
+    ensures { IfOk result (λ names. texts_of names.items ≡ [] ∷ names_of keys.now) }
+{
     let mut names = Vec::with_capacity(alloc, keys.len())?;
-    for number in 0..keys.len() {
+    names.push("")?;
+    for number in START.0 + 1..keys.len() {
         names.push(keys.name(KeyId(number)))?;
     }
     Ok(names)
@@ -132,13 +141,20 @@ fn way_of<'s>(
 {
     match refusal {
         Some(Refusal::Recursive { name }) => loop_of(alloc, keys, rows, segments, name),
-        Some(Refusal::NameClass { key: Key::Start }) => first_of(alloc, rows.row(START), segments),
-        Some(
-            Refusal::NameClass {
-                key: Key::Define(name),
-            },
-        ) => first_of(alloc, rows.row(keys.number(name)), segments),
+        Some(Refusal::NameClass { key }) => {
+            first_of(alloc, rows.row(number_of(keys, key)), segments)
+        }
         _ => Ok(Vec::new(alloc)),
+    }
+}
+
+/// The number of a key; of a name that no module defines, that of start.
+fn number_of(keys: &Keys<'_>, key: &Key) -> KeyId
+    ensures { result.0 < length (names_of keys.now) + 1 }
+{
+    match key {
+        Key::Start => START,
+        Key::Define(name) => keys.find(name).unwrap_or(START),
     }
 }
 

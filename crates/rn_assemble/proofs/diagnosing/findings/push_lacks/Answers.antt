@@ -1,5 +1,5 @@
 -- The lack of one include more.
-use Rattle.std.proofs.Common.{◌+◌, List, take, sym, ap, ◌∙◌, subst}
+use Rattle.std.proofs.Common.{◌+◌, ◌++◌, ◌∷◌, [], List, get_or, take, sym, ap, ◌∙◌, subst}
 use Rattle.std.proofs.lemmas.Bool.{false≢true}
 use Rattle.std.proofs.lemmas.List.{take_all, take_more}
 use Rattle.rn_pattern.proofs.Ordered.InOrder.{contained_each}
@@ -32,16 +32,18 @@ loop-include-preserved c =
     let key = c.args.key.0 in
     let bs = c.deref-include-items.result.now in
     let i = c.loop-include.include-index in
+    let d : FollowedInclude = record { «module» = record { 0 = 0 }; number = 0; own_from = 0; own_to = 0; from = 0; to = 0 } in
+    let b = get_or bs i d in
     let old = c.args.found.now.items in
     let found = c.loop-include.found.items in
-    subst (λ (ds : List FollowedInclude). AddsLacks P key ds old c.if-lacks.found.items) (sym (take_more bs i _ c.loop-include-test.true))
+    subst (λ (ds : List FollowedInclude). AddsLacks P key ds old c.if-lacks.found.items) (sym (take_more bs i d c.loop-include-test.true))
     (elim c.if-lacks.branch [
       | then-lacks+in_ok-push_lack w ↦
-          lack_met P key (take i bs) _ old found c.loop-include.invariant (c.lacks.ensures.0 w.if-lacks.true) c.if-lacks.found.items
-          (subst (λ (ls : List Lack). AddsLack key _ found ls) (sym (ap (λ v. v.items) w.found-is)) w.in_ok-push_lack.ensures)
+          lack_met P key (take i bs) b old found c.loop-include.invariant (c.lacks.ensures.0 w.if-lacks.true) c.if-lacks.found.items
+          (subst (λ (ls : List Lack). AddsLack key b found ls) (sym (ap (λ v. v.items) w.found-is)) w.in_ok-push_lack.ensures)
       | else-lacks w ↦
-          subst (λ (ls : List Lack). AddsLacks P key _ old ls) (sym (ap (λ v. v.items) w.found-is))
-          (lack_passed P key (take i bs) _ old found c.loop-include.invariant (λ p. false≢true (sym w.if-lacks.false ∙ c.lacks.ensures.1 p)))
+          subst (λ (ls : List Lack). AddsLacks P key (take i bs ++ b ∷ []) old ls) (sym (ap (λ v. v.items) w.found-is))
+          (lack_passed P key (take i bs) b old found c.loop-include.invariant (λ p. false≢true (sym w.if-lacks.false ∙ c.lacks.ensures.1 p)))
     ])
 
 pub returns : goal.returns

@@ -1,8 +1,9 @@
 -- One lack more is a finding.
-use Rattle.std.proofs.Common.{◌≡◌, ◌++◌, ◌∷◌, [], List, map, take, sym, ap, ◌∙◌, subst, append_assoc, append-nil}
-use Rattle.std.proofs.lemmas.List.{map-append, take_all, take_more}
+use Rattle.std.proofs.Common.{◌++◌, List, map, sym, ap, ◌∙◌, append-nil}
+use Rattle.std.proofs.lemmas.List.{take_all}
 use Rattle.rn_assemble.specs.declared.diagnosing.findings.Lack.{Lack}
 use Rattle.rn_assemble.specs.inside.Diagnosing.{lack_finding}
+use Rattle.rn_assemble.proofs.Diagnoses.KeyFindings.{said_more}
 use Rattle.rn_assemble.proofs.Diagnoses.Lacks.{lacks_said}
 use Rattle.rn_assemble.proofs.diagnosing.findings.push_overrides.Goals as goal
 
@@ -11,11 +12,8 @@ loop-lack-init c = sym (append-nil c.args.found.now.items)
 
 pub loop-lack-preserved : goal.loop-lack-preserved
 loop-lack-preserved c =
-    let ls = c.deref-lack-items.result.now in
-    let i = c.loop-lack.lack-index in
-    let old = c.args.found.now.items in
-    c.in_ok-push.ensures.items ∙ ap (λ fs. fs ++ _ ∷ []) c.loop-lack.invariant ∙ append_assoc old (map lack_finding (take i ls)) (_ ∷ [])
-    ∙ ap (λ fs. old ++ fs) (sym (ap (map lack_finding) (take_more ls i _ c.loop-lack-test.true) ∙ map-append lack_finding (take i ls) (_ ∷ [])))
+    let d : Lack = record { key = record { 0 = 0 }; component = record { «module» = record { 0 = 0 }; number = 0 }; include = record { «module» = record { 0 = 0 }; number = 0 } } in
+    said_more lack_finding c.deref-lack-items.result.now c.loop-lack.lack-index d c.loop-lack-test.true c.args.found.now.items c.loop-lack.found.items c.push.new.self.items c.loop-lack.invariant c.in_ok-push.ensures.items
 
 pub returns : goal.returns
 returns c = λ modules names expanded.

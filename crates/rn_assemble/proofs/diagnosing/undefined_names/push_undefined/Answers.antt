@@ -1,5 +1,5 @@
 -- The names of one component more.
-use Rattle.std.proofs.Common.{◌≡◌, ◌+◌, ◌++◌, [], List, true, false, length, drop, refl, sym, ap, ◌∙◌, subst, arith, append-nil}
+use Rattle.std.proofs.Common.{◌≡◌, ◌+◌, ◌<◌, ◌++◌, [], List, true, false, length, drop, refl, sym, ap, ◌∙◌, subst, arith, append-nil}
 use Rattle.std.proofs.lemmas.Grind.{flat_map-append}
 use Rattle.std.proofs.lemmas.List.{drop_all}
 use Rattle.rn_text.specs.Texts.{Text}
@@ -28,7 +28,7 @@ loop-index-preserved c =
     let found = c.loop-index.found.items in
     let (done, is, adds) = c.loop-index.invariant in
     let l = c.loop-index-test.true in
-    let m = omega (arith, l, c.requires) in
+    let m : i < length marks = omega (arith, l, c.requires) in
     elim c.if-is_live-index.branch [
       | then-is_live-index+in_ok-push_undefined_of w ↦
           let v = w.index-row-index.result in

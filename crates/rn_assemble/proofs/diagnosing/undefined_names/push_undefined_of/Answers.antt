@@ -1,5 +1,5 @@
 -- The name of one reference more.
-use Rattle.std.proofs.Common.{◌≡◌, ◌+◌, ◌++◌, ◌∷◌, [], List, length, map, take, get_or, refl, sym, ap, ◌∙◌, subst, arith}
+use Rattle.std.proofs.Common.{◌≡◌, ◌+◌, ◌<◌, ◌++◌, ◌∷◌, [], List, length, map, take, get_or, refl, sym, ap, ◌∙◌, subst, arith}
 use Rattle.std.proofs.lemmas.Bool.{false≢true}
 use Rattle.std.proofs.lemmas.List.{get_or_default, take_all}
 use Rattle.rn_syntax.specs.View.{pattern_view}
@@ -26,7 +26,7 @@ loop-number-preserved c =
     let r = c.index.result.now in
     let old = c.args.found.now.items in
     let found = c.loop-number.found.items in
-    let l = omega (arith, c.loop-number-test.true, c.len-number-end.ensures, c.refer.new.found.ok.0) in
+    let l : i < length rs = omega (arith, c.loop-number-test.true, c.len-number-end.ensures, c.refer.new.found.ok.0) in
     let read : get_or rs i no_reference ≡ r = get_or_default rs i no_reference r l ∙ sym c.index.ensures in
     let before = names_within Everywhere (map reference_view (take i rs)) in
     let more = names_more Everywhere rs i l ∙ ap (λ (q : Reference). before ++ q.name.now ∷ []) read in
