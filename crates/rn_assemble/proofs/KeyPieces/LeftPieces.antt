@@ -15,7 +15,6 @@ use Rattle.rn_assemble.specs.declared.reading.key_rows.WrittenComponent as code
 use Rattle.rn_assemble.specs.declared.including.pieces.Piece.{Piece}
 use Rattle.rn_assemble.specs.declared.including.segments.FollowedInclude.{FollowedInclude}
 use Rattle.rn_assemble.specs.declared.including.segments.Segment.{Segment}
-use Rattle.rn_assemble.specs.inside.Contained.{WrittenComponent}
 use Rattle.rn_assemble.specs.inside.ContentsOf.{declarations_at, resolved_component, written_at}
 use Rattle.rn_assemble.specs.inside.Pieces.{IsPiece, component_in, parts_in, piece_components}
 use Rattle.rn_assemble.specs.inside.Rows.{IsRowOf, placed_view}

@@ -1,9 +1,8 @@
 -- Components of a row that are an include's own.
-use Rattle.std.proofs.Common.{◌≡◌, ◌<◌, ◌≤◌, ℕ, true, Contains, List, Some, sym, ap, ◌∙◌, subst, arith}
+use Rattle.std.proofs.Common.{◌≡◌, ◌<◌, ◌≤◌, ℕ, true, Contains, List, Some, sym, ap, ◌∙◌, arith}
 use Rattle.std.specs.Prelude.{slice_get}
-use Rattle.std.specs.List.{AllByRecursion}
-use Rattle.std.proofs.lemmas.List.Elements.{All-from_recursion}
 use Rattle.std.proofs.lemmas.Option.{get_or_from_slice_get, slice_get_within}
+use Rattle.rn_pattern.proofs.Ordered.InOrder.{contained_each}
 use Rattle.rn_assemble.specs.Components.{Component, Key, NamedModule}
 use Rattle.rn_assemble.specs.declared.reading.contents.Contents.{Contents}
 use Rattle.rn_assemble.specs.declared.reading.contents.Include.{Include}
@@ -28,10 +27,7 @@ module _ (modules : List NamedModule) (x : Segments) (cs : List Component) (s : 
   component_own k row is b has i w at within =
       let told = within_says b.module.0 b.own_from b.own_to w within in
       let facts = (row_in modules k cs row x is s).written i w at in
-      let brought = each_of (IsBrought modules x.contents.now x.list.items) x.brought.items b s.brought has in
+      let brought = contained_each (IsBrought modules x.contents.now x.list.items) x.brought.items s.brought b has in
       let own = brought.own facts.0 (ap (slice_get x.contents.now) (sym told.0) ∙ facts.1) in
       let among : Contains facts.0.includes.items own.0 = (b.number, slice_get_within facts.0.includes.items b.number own.0 own.1, get_or_from_slice_get facts.0.includes.items b.number own.0 own.0 own.1) in
       (facts.0, own.0, facts.1, among, omega (arith, told.1, own.2), omega (arith, told.2, own.3))
-    where
-      each_of : (P : FollowedInclude → Type 0) (bs : List FollowedInclude) (y : FollowedInclude) → AllByRecursion P bs → Contains bs y → P y
-      each_of P bs y all c = subst P c.2 (All-from_recursion P bs all c.0 y c.1)

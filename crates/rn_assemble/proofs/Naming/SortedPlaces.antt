@@ -1,5 +1,5 @@
 -- First places that were sorted by segment and number are in order.
-use Rattle.std.proofs.Common.{◌≡◌, ℕ, suc, ◌<◌, inl, inr, true, false, cond, List, [], ◌∷◌, length, get_or, sym, ap, ◌∙◌, subst, arith, nat_eq, nat_cmp, is_lt, Less, Equal, Greater, Ordering, IsSortedByKey}
+use Rattle.std.proofs.Common.{◌≡◌, ℕ, suc, ◌<◌, inl, inr, false, cond, List, [], ◌∷◌, length, get_or, sym, ap, ◌∙◌, subst, arith, nat_eq, nat_cmp, is_lt, Less, Equal, Greater, Ordering, IsSortedByKey}
 use Rattle.std.specs.Ordering.{ordering_then}
 use Rattle.std.proofs.lemmas.Bool.{cases_eq, cases_lt, eq-eqb, false≢true, le-ltb, lt-ltb}
 use Rattle.std.proofs.lemmas.Cmp.{nat_cmp_total, on_total, then_total}

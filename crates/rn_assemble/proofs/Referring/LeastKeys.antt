@@ -26,7 +26,7 @@ less_number names o (suc m) (suc n) l k e = elim (cases_lt m n) [
 ]
 
 module _ (names : List Text) (o : IsStrictlySortedBy text_cmp names) (P : Key → Type 0) (has : (k : Key) → P k → (m : ℕ) × (m < suc (length names)) × (k ≡ key_at names m)) where
-  pub least_key : (n : ℕ) → IsLeastNumber names P (Some n) → IsLeast key_cmp P (key_at names n)
+  pub least_key : (n : ℕ) → IsLeastNumber names P (Some (record { 0 = n })) → IsLeast key_cmp P (key_at names n)
   least_key n h = record {
     holds = h.1;
     least = λ y p less. let m = has y p in

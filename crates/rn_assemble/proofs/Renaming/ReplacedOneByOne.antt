@@ -1,5 +1,5 @@
 -- What holds of each thing that a loop goes through, and things that are replaced one by one.
-use Rattle.std.proofs.Common.{◌≡◌, ◌+◌, List, [], ◌∷◌, ◌++◌, map, length, append-nil, refl, sym, ap, ◌∙◌, subst}
+use Rattle.std.proofs.Common.{◌≡◌, List, [], ◌∷◌, ◌++◌, map, length, append-nil, refl, sym, ap, ◌∙◌, subst}
 use Rattle.std.specs.List.{AllByRecursion, AllZip}
 use Rattle.std.proofs.lemmas.List.{nil_from_length}
 use Rattle.rn_pattern.proofs.Ordered.Ascending.{each_behind}

@@ -1,5 +1,5 @@
 -- The segments of a set, as they lie in the code, and what includes override in them (RELAX NG 2001, 4.7).
-use Rattle.std.specs.Prelude.{ℕ, suc, ◌+◌, ◌<◌, ◌≤◌, ◌≡◌, ◌&&◌, not, nat_lt, true, false, Bool, List, [], ◌∷◌, ◌++◌, filter, length, map, slice_get, slice_range, Some, Vec, Contains}
+use Rattle.std.specs.Prelude.{ℕ, suc, ◌<◌, ◌≤◌, ◌≡◌, ◌&&◌, not, nat_lt, true, false, Bool, List, [], ◌∷◌, ◌++◌, filter, length, map, slice_get, slice_range, Some, Vec, Contains}
 use Rattle.std.specs.Option.{option_map_or}
 use Rattle.std.specs.declared.alloc.Global.{Global}
 use Rattle.std.specs.Rc.{rc_str_bytes}

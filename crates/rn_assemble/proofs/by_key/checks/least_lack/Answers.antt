@@ -32,7 +32,7 @@ loop-number-preserved c = record {
       elim c.match-least_lacking.branch [
         | in-Some w ↦
             subst (λ (o : Option Lack). IsLeastUpTo modules names x (key + 1) o) (sym w.least-is)
-            (met modules names x key w.in-Some.«module».0 c.loop-number.least w.lesser_lack.result before (subst (λ r. IsLeastLacking modules x (key_at names key) r) w.in-Some.is least) w.lesser_lack.ensures)
+            (met modules names x key w.in-Some.«module» c.loop-number.least w.lesser_lack.result before (subst (λ r. IsLeastLacking modules x (key_at names key) r) w.in-Some.is least) w.lesser_lack.ensures)
         | in_default w ↦
             subst (λ (o : Option Lack). IsLeastUpTo modules names x (key + 1) o) (sym w.least-is)
             (passed modules names x key c.loop-number.least before (subst (λ r. IsLeastLacking modules x (key_at names key) r) w.in_default.is least))

@@ -7,7 +7,7 @@ use Rattle.std.proofs.lemmas.Result.{IfOk-weaker}
 use Rattle.rn_syntax.specs.View.{boxed_view}
 use Rattle.rn_pattern.specs.Tree.{interleave, choice, trees_of}
 use Rattle.rn_pattern.specs.View.{pattern_view, shared_trees}
-use Rattle.rn_assemble.specs.Combine.{bodies, method_node, uses}
+use Rattle.rn_assemble.specs.Combine.{bodies, method_node}
 use Rattle.rn_assemble.specs.Resolve.{resolved_pattern}
 use Rattle.rn_assemble.specs.declared.reading.key_rows.WrittenComponent as code
 use Rattle.rn_assemble.specs.declared.including.pieces.Piece.{Piece}

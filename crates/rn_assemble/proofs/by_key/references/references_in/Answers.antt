@@ -1,5 +1,5 @@
 -- The references of one component more.
-use Rattle.std.proofs.Common.{◌+◌, ◌<◌, [], ◌++◌, length, map, true, false, sym, ap, ◌∙◌, arith, append-nil}
+use Rattle.std.proofs.Common.{◌<◌, ◌++◌, length, map, true, false, sym, ap, ◌∙◌, arith, append-nil}
 use Rattle.std.proofs.lemmas.List.{get_or_default}
 use Rattle.rn_syntax.specs.View.{pattern_view}
 use Rattle.rn_pattern.specs.declared.adjacency.references.Reach.TheVariants.{OutsideElements}

@@ -36,7 +36,7 @@ contents_of_module-requires-clause-within c =
     let left = into_iter_items c.next.new.self in
     let step : into_iter_items at.items-iterator ≡ c.in-Some.items ∷ left = c.in-Some.ensures.steps.0 in
     let all : at.yielded ++ c.in-Some.items ∷ left ≡ c.args.items.items = ap (λ xss. at.yielded ++ xss) (sym step) ∙ at.invariant.rest in
-    omega (arith, c.len.ensures, at.all.ok, at.invariant.size, c.requires.size, ap length all, length-append at.yielded (c.in-Some.items ∷ left))
+    omega (arith, c.len-in-loop-items.ensures, at.all.ok, at.invariant.size, c.requires.size, ap length all, length-append at.yielded (c.in-Some.items ∷ left))
 
 pub contents_of_module-requires-clause-defined : goal.contents_of_module-requires-clause-defined
 contents_of_module-requires-clause-defined c =
@@ -60,7 +60,7 @@ loop-items-preserved c =
     let step : into_iter_items at.items-iterator ≡ xs ∷ left = c.in-Some.ensures.steps.0 in
     let all : at.yielded ++ xs ∷ left ≡ c.args.items.items = ap (λ xss. at.yielded ++ xss) (sym step) ∙ at.invariant.rest in
     let within : length at.yielded < length ms = omega (arith, c.requires.size, ap length all, length-append at.yielded (xs ∷ left)) in
-    let here : c.len.result ≡ length at.yielded = omega (arith, c.len.ensures, at.all.ok, at.invariant.size) in
+    let here : c.len-in-loop-items.result ≡ length at.yielded = omega (arith, c.len-in-loop-items.ensures, at.all.ok, at.invariant.size) in
     let (m, seen, is) = module_there ms (length at.yielded) within in
     let had = with_items ms at.yielded in
     let more : with_items ms (at.yielded ++ xs ∷ []) ≡ had ++ module_with m xs ∷ [] = with_more ms at.yielded m xs within (sym is) in
@@ -71,7 +71,7 @@ loop-items-preserved c =
       are = subst (λ (ns : List NamedModule). AllZip R ns c.push.new.self.items) (sym more)
           (subst (AllZip R (had ++ module_with m xs ∷ [])) (sym pushed) (zip_push R had at.all.items (module_with m xs) c.in_ok-contents.contents at.invariant.are this));
       rows = subst (λ (ns : List NamedModule). AreRowsOf names ns c.contents_of_module.new.rows.rows.items) (sym more)
-          (rows_of_more names had (module_with m xs) c.len.result at.rows.rows.items c.contents_of_module.new.rows.rows.items (here ∙ sym (items_size ms at.yielded (omega (arith, within)))) at.invariant.rows c.in_ok-contents.ensures.rows);
+          (rows_of_more names had (module_with m xs) c.len-in-loop-items.result at.rows.rows.items c.contents_of_module.new.rows.rows.items (here ∙ sym (items_size ms at.yielded (omega (arith, within)))) at.invariant.rows c.in_ok-contents.ensures.rows);
       size = omega (arith, ap length pushed, length-append at.all.items (c.in_ok-contents.contents ∷ []), length-append at.yielded (xs ∷ []), at.invariant.size);
       rest = append_assoc at.yielded (xs ∷ []) left ∙ all;
       count = omega (arith, c.in-Some.ensures.steps.1, at.invariant.count, ap length step);

@@ -1,5 +1,5 @@
 -- A component of the row is one of its module, whose includes stand in order; an include that was followed is one of these.
-use Rattle.std.proofs.Common.{◌≡◌, ◌||◌, true, false, get_or, Some, refl, sym, ap, ◌∙◌}
+use Rattle.std.proofs.Common.{◌≡◌, ◌||◌, false, get_or, Some, refl, sym, ap, ◌∙◌}
 use Rattle.std.specs.Prelude.{slice_get}
 use Rattle.std.specs.List.{list_any}
 use Rattle.std.proofs.lemmas.Bool.{false≢true, false_from_ne_true}

@@ -3,7 +3,7 @@ use Rattle.std.specs.Prelude.{Contains}
 use Rattle.std.proofs.lemmas.Bool.{false_from_ne_true, false≢true}
 use Rattle.rn_assemble.specs.declared.including.segments.FollowedInclude.{FollowedInclude}
 use Rattle.rn_assemble.specs.inside.Pieces.{overrides_in}
-use Rattle.rn_assemble.specs.inside.Runs.{ArePiecesIn, marked}
+use Rattle.rn_assemble.specs.inside.Runs.{ArePiecesIn}
 use Rattle.rn_assemble.proofs.KeyPieces.Marks.{marked_rise, none_marked, step_marked, step_none, step_same}
 use Rattle.rn_assemble.proofs.KeyPieces.RowOrder.{row_rises}
 use Rattle.rn_assemble.proofs.including.segments.Segments.mark_overridden.Goals as goal
@@ -34,7 +34,7 @@ loop-brought-preserved c =
     let ps = c.args.pieces.now in
     let xs = c.loop-brought.pieces in
     let i = c.loop-brought.brought-index in
-    let d : FollowedInclude = record { «module» = 0; own_from = 0; own_to = 0; from = 0; to = 0 } in
+    let d : FollowedInclude = record { «module» = record { 0 = 0 }; number = 0; own_from = 0; own_to = 0; from = 0; to = 0 } in
     let value : c.deref-brought-items.result.now ≡ bs = c.deref-brought-items.ensures.value in
     let b = get_or bs i d in
     let same : get_or c.deref-brought-items.result.now i d ≡ b = ap (λ ds. get_or ds i d) value in
