@@ -1,6 +1,7 @@
 -- Which refusal is answered.
 pub mod ReferenceRefusals
 pub mod ReadModules
+pub mod ExpandedModules
 pub mod FirstRefusal
 pub mod SetRefusal
 pub mod CheckedModules

@@ -7,6 +7,7 @@ pub mod Contained
 pub mod ContextBindings
 pub mod ContentsOf
 pub mod Covered
+pub mod Diagnosing
 pub mod FirstPlaces
 pub mod GatheredUris
 pub mod Included

@@ -5,6 +5,7 @@
 
 pub mod assembly;
 mod by_key;
+pub mod diagnosing;
 pub mod grammar;
 mod including;
 mod reading;
@@ -14,8 +15,13 @@ pub mod short_uris;
 mod shortening;
 
 pub use assembly::{ShortGrammar, assemble, assemble_short};
+pub use diagnosing::diagnosis::{Diagnosis, diagnose};
+pub use diagnosing::findings::Finding;
+pub use diagnosing::places::{ComponentPlace, IncludePlace, LeftDefinition, ReferencePlace};
 pub use grammar::{Definitions, Grammar};
 pub use including::instances::INSTANCE_LIMIT;
+pub use reading::keys::KeyId;
+pub use reading::named_modules::ModuleId;
 pub use refusal::{Key, Refusal};
 pub use short_uris::{MAX_KEPT_URI, ShortUris};
 

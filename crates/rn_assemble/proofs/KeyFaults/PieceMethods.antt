@@ -19,7 +19,7 @@ any_mapped : {X Y : Type 0} (test : Y → Bool) (f : X → Y) (xs : List X) → 
 any_mapped test f [] = refl
 any_mapped test f (x ∷ xs) = ap (λ r. test (f x) || r) (any_mapped test f xs)
 
-count_mapped : {X Y : Type 0} (test : Y → Bool) (f : X → Y) (xs : List X) → count_by test (map f xs) ≡ count_by (λ x. test (f x)) xs
+pub count_mapped : {X Y : Type 0} (test : Y → Bool) (f : X → Y) (xs : List X) → count_by test (map f xs) ≡ count_by (λ x. test (f x)) xs
 count_mapped test f [] = refl
 count_mapped test f (x ∷ xs) =
     sum_by-cons (λ y. cond {A = ℕ} (test y) 1 0) (f x) (map f xs)

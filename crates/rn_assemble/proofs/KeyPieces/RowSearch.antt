@@ -107,3 +107,7 @@ module _ (row : List code.WrittenComponent) (rises : IsOrderedRow row) (m from :
         | inr no' ↦
             no' ∙ sym (none_from (false_from_ne_true (is_within m from to w) (λ t. let s = within_says m from to w t in let above = ltb-false w.number to no' in omega (arith, s.2, above))))
       ]
+
+      -- it isn't before the range
+      pub not_below : w.module.0 ≡ m → from ≤ w.number
+      not_below e = elim (cases_lt w.number from) [ inl b ↦ absurd (here (inr (e, b))) | inr b ↦ b ]

@@ -10,14 +10,15 @@ use Rattle.rn_text.specs.Texts.{Text, text_cmp}
 use Rattle.rn_pattern.specs.Matching.{Grammar, definition_of}
 use Rattle.rn_pattern.specs.Reached.{RefersTo}
 use Rattle.rn_pattern.specs.References.{RefersOutside, IsUndefined}
-use Rattle.rn_pattern.specs.Graph.{row}
+use Rattle.rn_pattern.specs.Graph.{row, rows_of}
+use Rattle.rn_pattern.specs.declared.adjacency.references.ReferenceRows.{ReferenceRows}
 use Rattle.rn_pattern.proofs.Graphs.FirstLoop.{source_within}
 use Rattle.rn_pattern.proofs.Graphs.BuiltRows.{row_before, row_behind}
 use Rattle.rn_assemble.specs.Components.{name_key, Component}
 use Rattle.rn_assemble.specs.Combine.{joined_pattern, joined_grammar, defined_names}
 use Rattle.rn_assemble.specs.inside.Keyed.{IsNameNumber, key_at}
 use Rattle.rn_assemble.specs.Least.{IsLeast}
-use Rattle.rn_assemble.specs.inside.Referred.{AreAllReferences, AreMarksOf, AreNumbers, IsLeastUnmarked, IsMarkedName, KeepsLeast}
+use Rattle.rn_assemble.specs.inside.Referred.{AreAllReferences, AreMarksOf, AreNumbers, AreRowsOrLeast, IsLeastUnmarked, IsMarkedName, KeepsLeast}
 use Rattle.rn_assemble.specs.inside.ReferenceOrder.{AreDefinedKeys}
 use Rattle.rn_assemble.proofs.Referring.DefinedMarks.{defined_marked, marked_defined, number_of}
 use Rattle.rn_assemble.proofs.Referring.JoinedReferences.{refers_in_definition, outside_anywhere, some_definition}
@@ -105,6 +106,13 @@ module _ (names : List Text) (cs : List Component) (keys : List ℕ) (defined : 
   unmarked : (x : Text) → definition_of G x ≡ None → ¬ IsMarkedName names marks x
   unmarked x u m = not_none (definition_of G x) (marked_defined names cs keys defined marks are x m) u
 
+  -- a name without a mark that a key refers to is undefined, and each undefined name is one
+  pub unmarked_undefined : (x : Text) (k : ℕ) → RefersTo x (joined_pattern cs (key_at names k)) → ¬ IsMarkedName names marks x → IsUndefined G x
+  unmarked_undefined x k r never = (at_referred x k r, is_none (definition_of G x) (λ d. never (defined_marked names cs keys defined marks are x d)))
+
+  pub undefined_unmarked : (x : Text) → IsUndefined G x → (k : ℕ) × (k < suc (length names)) × RefersTo x (joined_pattern cs (key_at names k)) × ¬ IsMarkedName names marks x
+  undefined_unmarked x u = let k = referred_at x u.0 in (k.0, k.1, k.2, unmarked x u.1)
+
   module _ (all outer : List (List ℕ)) (size : length all ≡ suc (length names)) (outer_size : length outer ≡ suc (length names)) where
     listed : (u : Option Text) (g : Gathered names cs marks all outer (suc (length names)) u) (x : Text) (k : ℕ) → k < suc (length names) → RefersTo x (joined_pattern cs (key_at names k)) → Contains g.before x
     listed u g x k h r = (g.are x).1 (k, h, r)
@@ -134,3 +142,8 @@ module _ (names : List Text) (cs : List Component) (keys : List ℕ) (defined : 
           holds = (at_referred x k.0 k.2, is_none (definition_of G x) (λ d. g.least.1 (defined_marked names cs keys defined marks are x d)));
           least = λ y u. let j = referred_at y u.0 in g.least.2 y (listed (Some x) g y j.0 j.1 j.2) (unmarked y u.1);
         }
+
+  -- the references, or the least undefined name, as the code holds them
+  pub rows_or_least : (rows : ReferenceRows) → length (rows_of rows.everywhere) ≡ suc (length names) → length (rows_of rows.outside) ≡ suc (length names) → (o : Option Text) → Gathered names cs marks (rows_of rows.everywhere) (rows_of rows.outside) (suc (length names)) o → AreRowsOrLeast names cs rows o
+  rows_or_least rows a b None g = gathered_none (rows_of rows.everywhere) (rows_of rows.outside) a b g
+  rows_or_least rows a b (Some x) g = gathered_some (rows_of rows.everywhere) (rows_of rows.outside) a b x g

@@ -9,7 +9,8 @@ use Rattle.rn_pattern.specs.Reached.{RefersTo}
 use Rattle.rn_pattern.specs.References.{RefersOutside, IsUndefined, IsRecursive}
 use Rattle.rn_syntax.specs.Tree as t
 use Rattle.rn_syntax.specs.Tree.{Pattern, Patterns}
-use Rattle.rn_pattern.specs.Graph.{row}
+use Rattle.rn_pattern.specs.Graph.{row, rows_of}
+use Rattle.rn_pattern.specs.declared.adjacency.references.ReferenceRows.{ReferenceRows}
 use Rattle.rn_assemble.specs.Components.{Component}
 use Rattle.rn_assemble.specs.Combine.{joined_pattern, joined_grammar}
 use Rattle.rn_assemble.specs.inside.Keyed.{IsNameNumber, key_at}
@@ -72,6 +73,11 @@ abbrev pub IsLeastUndefined : List Component → Refusal → Type 0
 IsLeastUndefined cs (r.Undefined x) = IsLeast text_cmp (IsUndefined (joined_grammar cs)) (string_bytes x)
 IsLeastUndefined cs r.Memory = ⊤
 IsLeastUndefined cs _ = ⊥
+
+-- the references of the components, or the least name that is referred to and not defined
+abbrev pub AreRowsOrLeast : List Text → List Component → ReferenceRows → Option Text → Type 0
+AreRowsOrLeast names cs rows None = AreAllReferences names cs (rows_of rows.everywhere) (rows_of rows.outside)
+AreRowsOrLeast names cs rows (Some x) = IsLeast text_cmp (IsUndefined (joined_grammar cs)) x
 
 -- ---- how references are found
 

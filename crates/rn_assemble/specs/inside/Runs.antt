@@ -1,5 +1,5 @@
 -- Runs of a row: the components of one module that no include parts.
-use Rattle.std.specs.Prelude.{ℕ, ◌<◌, ◌≤◌, ◌≡◌, ◌⊎◌, ◌↔◌, ◌&&◌, not, nat_lt, Bool, true, false, List, ◌++◌, length, map, slice_get, Some, Contains}
+use Rattle.std.specs.Prelude.{ℕ, ◌<◌, ◌≤◌, ◌≡◌, ◌⊎◌, ◌↔◌, ◌&&◌, not, nat_lt, Bool, true, false, List, ◌++◌, length, map, slice_get, Option, Some, None, Contains}
 use Rattle.std.specs.List.{AllPairs, list_any}
 use Rattle.rn_assemble.specs.declared.reading.contents.Contents.{Contents}
 use Rattle.rn_assemble.specs.declared.reading.key_rows.WrittenComponent as code
@@ -58,3 +58,8 @@ pub record ArePiecesIn (pieces : List Piece) (b : FollowedInclude) (from to : �
 pub record IsLackByPieces (row : List code.WrittenComponent) (pieces : List Piece) (b : FollowedInclude) : Type 0 where
   pub overrides : overrides_in row b ≡ true
   pub none : (p : Piece) → Contains pieces p → b.from ≤ p.segment → p.segment < b.to → ⊥
+
+-- the component is one of the row, and one of the include's own; none where no component of the row is
+abbrev pub IsFirstOwn : List code.WrittenComponent → FollowedInclude → Option code.WrittenComponent → Type 0
+IsFirstOwn row b None = overrides_in row b ≡ false
+IsFirstOwn row b (Some w) = Contains row w × (w.module.0 ≡ b.module.0) × (b.own_from ≤ w.number) × (w.number < b.own_to)

@@ -14,7 +14,7 @@ ghost use Rattle.rn_assemble.specs.declared.including.pieces.Piece as specs_piec
 ghost use Rattle.rn_assemble.specs.declared.reading.keys.KeyId.{KeyId};
 ghost use Rattle.rn_assemble.specs.inside.Pieces.{AreKnownBy, OfKeys};
 ghost use Rattle.rn_assemble.specs.inside.ReferenceOrder.{AreDefinedKeys};
-ghost use Rattle.rn_assemble.specs.inside.Referred.{AreAllReferences, AreLiveMarks, AreMarksOf, AreNumbers, IsLeastUndefined, KeepsLeast, all_references, lesser_text, marked_references, names_within, number_within, reference_view, references};
+ghost use Rattle.rn_assemble.specs.inside.Referred.{AreAllReferences, AreLiveMarks, AreMarksOf, AreNumbers, AreRowsOrLeast, IsLeastUndefined, KeepsLeast, all_references, lesser_text, marked_references, names_within, number_within, reference_view, references};
 ghost use Rattle.rn_assemble.specs.inside.Views.{key_numbers, names_of};
 
 use crate::including::pieces::Piece;
@@ -28,9 +28,9 @@ use std::alloc::{AllocError, Global};
 
 /// A reference of a pattern: its name, and the narrowest reach that takes it in.
 #[derive(Clone, Copy)]
-struct Reference<'s> {
-    name: &'s str,
-    reach: Reach,
+pub(crate) struct Reference<'s> {
+    pub name: &'s str,
+    pub reach: Reach,
 }
 
 /// The references of all components, by keys. `Undefined` names the least name that is referred to and has no component;
@@ -54,6 +54,32 @@ pub(crate) fn references_of<'s>(
         (λ r. AreAllReferences names cs (rows_of r.everywhere) (rows_of r.outside))
         (IsLeastUndefined cs)) }
 {
+    match reference_rows(alloc, keys, rows, segments, defined)? {
+        (_, Some(name)) => Err(undefined_name(alloc, name)),
+        (found, None) => Ok(found),
+    }
+}
+
+/// The references of all components, by keys, and the least name that is referred to and has no component, if there is
+/// one; `defined` are the keys of the names that have some.
+pub(crate) fn reference_rows<'s>(
+    alloc: Global,
+    keys: &Keys<'s>,
+    rows: &KeyRows<'s>,
+    segments: &Segments<'_, '_, '_>,
+    defined: &[KeyId],
+) -> Result<(ReferenceRows, Option<&'s str>), AllocError>
+    requires { AreKnownBy (names_of keys.now) rows.now segments.now }
+    ensures everywhere { IfOk result (λ r. IsGraph (rows_of r.0.everywhere)) }
+    ensures everywhere_size { IfOk result (λ r. length (rows_of r.0.everywhere)
+        ≡ length (names_of keys.now) + 1) }
+    ensures outside { IfOk result (λ r. IsGraph (rows_of r.0.outside)) }
+    ensures outside_size { IfOk result (λ r. length (rows_of r.0.outside)
+        ≡ length (names_of keys.now) + 1) }
+    ensures found { OfKeys keys.now rows.now segments.now
+        (λ names cs. AreDefinedKeys names cs (key_numbers defined.now) → IfOk result
+        (λ r. AreRowsOrLeast names cs r.0 (option_map (λ s. s.now) r.1))) }
+{
     let is_defined = marks_of(alloc, rows.len(), defined)?;
     let mut pieces = Vec::new(alloc);
     let mut references = Vec::new(alloc);
@@ -67,14 +93,11 @@ pub(crate) fn references_of<'s>(
         row_of(keys, &is_defined, &references, &mut undefined, &mut row)?;
         found.push_row(&row)?;
     }
-    match undefined {
-        Some(name) => Err(undefined_name(alloc, name)),
-        None => Ok(found),
-    }
+    Ok((found, undefined))
 }
 
 /// For each of so many keys, whether it is one of these.
-fn marks_of(alloc: Global, count: usize, keys: &[KeyId]) -> Result<Vec<bool>, AllocError>
+pub(crate) fn marks_of(alloc: Global, count: usize, keys: &[KeyId]) -> Result<Vec<bool>, AllocError>
     ensures { IfOk result (λ marks. AreMarksOf (key_numbers keys.now) count marks.items) }
 {
     let mut marks = vec![in alloc; false; count]?;
@@ -120,7 +143,11 @@ fn references_in<'s>(
 }
 
 /// For each of so many components, whether a piece has it.
-fn live_marks(alloc: Global, count: usize, pieces: &[Piece]) -> Result<Vec<bool>, AllocError>
+pub(crate) fn live_marks(
+    alloc: Global,
+    count: usize,
+    pieces: &[Piece],
+) -> Result<Vec<bool>, AllocError>
     requires { AllByRecursion (λ (p : specs_piece.Piece). (p.from ≤ p.to) × (p.to ≤ count))
         pieces.now }
     ensures { IfOk result (λ marks. AreLiveMarks pieces.now count marks.items) }
@@ -145,7 +172,7 @@ fn mark_all(marks: &mut [bool], from: usize, to: usize)
 
 /// Adds the references of a pattern that stands in that reach.
 #[cycle(refer)]
-fn refer<'s>(
+pub(crate) fn refer<'s>(
     pattern: &Pat<'s>,
     reach: Reach,
     found: &mut Vec<Reference<'s>>,
@@ -218,7 +245,7 @@ fn row_of<'s>(
 }
 
 /// Whether the key of a name, if the name has one, has a mark.
-fn has_mark(marks: &[bool], key: Option<KeyId>) -> bool
+pub(crate) fn has_mark(marks: &[bool], key: Option<KeyId>) -> bool
     ensures { result ≡ option_map_or (λ (k : KeyId). slice_index_or marks.now k.0 false) key false }
 {
     match key {

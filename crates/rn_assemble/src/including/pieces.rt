@@ -1,5 +1,5 @@
 // The pieces of a key: which of the components that modules define under it stand in each segment.
-ghost use Rattle.std.specs.Prelude.{◌≡◌, ◌<◌, ◌≤◌, ◌↔◌, Contains, IfOk, IsTrue, Some, false, length, map, min, slice_get};
+ghost use Rattle.std.specs.Prelude.{◌≡◌, ◌<◌, ◌≤◌, ◌↔◌, Contains, IfOk, IsTrue, Some, false, length, map, min, option_map, slice_get};
 ghost use Rattle.std.specs.Option.{option_map_or};
 ghost use Rattle.std.specs.List.{AllByRecursion};
 ghost use Rattle.std.specs.List.Sorted.{IsStrictlyIncreasing};
@@ -10,7 +10,7 @@ ghost use Rattle.rn_assemble.specs.declared.including.pieces.Piece.{Piece};
 ghost use Rattle.rn_assemble.specs.declared.including.segments.FollowedInclude.{FollowedInclude};
 ghost use Rattle.rn_assemble.specs.inside.ContentsOf.{AreApart, HasOrderedIncludes};
 ghost use Rattle.rn_assemble.specs.inside.Pieces.{AreAllPieces, AreLeft, ArePieces, IsKnownRow, IsLeastLacking, OfRow, overrides_in};
-ghost use Rattle.rn_assemble.specs.inside.Runs.{AddsRun, ArePiecesIn, IsEndOfRun, IsLackByPieces, IsOrderedRow, marked, marked_in};
+ghost use Rattle.rn_assemble.specs.inside.Runs.{AddsRun, ArePiecesIn, IsEndOfRun, IsFirstOwn, IsLackByPieces, IsOrderedRow, marked, marked_in};
 
 use crate::including::segments::{FollowedInclude, Segments};
 use crate::reading::key_rows::WrittenComponent;
@@ -104,7 +104,7 @@ impl Segments<'_, '_, '_> {
     }
 
     /// Whether one of the components is an include's own. Where none is, no include overrides the key.
-    fn has_own(&self, row: &[WrittenComponent<'_>]) -> bool
+    pub fn has_own(&self, row: &[WrittenComponent<'_>]) -> bool
         requires { IsKnownRow row.now self.now }
         ensures { (b : FollowedInclude) → Contains self.now.brought.items b
             → IsTrue (overrides_in row.now b) → IsTrue result }
@@ -176,7 +176,11 @@ impl Segments<'_, '_, '_> {
 }
 
 /// Whether the include overrides the key, of which it brought nothing in; `pieces` has all pieces of the key.
-fn lacks(row: &[WrittenComponent<'_>], pieces: &[Piece], brought: &FollowedInclude) -> bool
+pub(crate) fn lacks(
+    row: &[WrittenComponent<'_>],
+    pieces: &[Piece],
+    brought: &FollowedInclude,
+) -> bool
     requires row_ordered { IsOrderedRow row.now }
     requires rise { IsStrictlyIncreasing (map (λ (p : Piece). p.segment) pieces.now) }
     requires ordered { brought.now.from ≤ brought.now.to }
@@ -222,13 +226,27 @@ fn overrides(row: &[WrittenComponent<'_>], brought: &FollowedInclude) -> bool
     requires { IsOrderedRow row.now }
     ensures { result ≡ overrides_in row.now brought.now }
 {
+    first_own(row, brought).is_some()
+}
+
+/// The first of the include's own components that has the key.
+pub(crate) fn first_own<'r, 's>(
+    row: &'r [WrittenComponent<'s>],
+    brought: &FollowedInclude,
+) -> Option<&'r WrittenComponent<'s>>
+    requires { IsOrderedRow row.now }
+    ensures { IsFirstOwn row.now brought.now (option_map (λ w. w.now) result) }
+{
     let at = row.partition_point(|component: &WrittenComponent<'_>| {
         component.module < brought.module
             || (component.module == brought.module && component.number < brought.own_from)
     });
     match row.get(at) {
-        Some(component) => component.module == brought.module && component.number < brought.own_to,
-        None => false,
+        Some(component)
+            if component.module == brought.module && component.number < brought.own_to => {
+            Some(component)
+        }
+        _ => None,
     }
 }
 

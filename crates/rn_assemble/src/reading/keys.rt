@@ -17,7 +17,7 @@ use std::alloc::{AllocError, Global};
 
 /// The number of a key: start, and then the names in the order of their bytes.
 #[derive(Clone, Copy, Debug, PartialEq, Eq, PartialOrd, Ord)]
-pub(crate) struct KeyId(pub(crate) usize);
+pub struct KeyId(pub usize);
 
 /// Start, which comes before all names.
 pub(crate) const START: KeyId = KeyId(0);

@@ -20,7 +20,7 @@ use std::alloc::{AllocError, Global};
 
 /// The number of a module among those of a set, in the order of their names.
 #[derive(Clone, Copy, Debug, PartialEq, Eq, PartialOrd, Ord)]
-pub(crate) struct ModuleId(pub(crate) usize);
+pub struct ModuleId(pub usize);
 
 /// An effective module: its name and its tree.
 #[derive(Drop)]

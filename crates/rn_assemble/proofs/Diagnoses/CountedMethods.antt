@@ -1,0 +1,71 @@
+-- How many components of a key pass a test of methods, as they occur in its pieces.
+use Rattle.std.proofs.Common.{◌≡◌, ℕ, ◌+◌, ◌<◌, Bool, true, false, ◌||◌, ◌&&◌, cond, List, [], ◌∷◌, length, flat_map, refl, sym, ap, ◌∙◌, arith}
+use Rattle.std.specs.Prelude.{count_by, sum_by}
+use Rattle.std.specs.List.{AllByRecursion, list_any}
+use Rattle.std.proofs.lemmas.Bool.{and_parts, false≢true}
+use Rattle.std.proofs.lemmas.List.Sums.{sum_by-append, sum_by-cons}
+use Rattle.rn_syntax.specs.declared.token.Method.{Method}
+use Rattle.rn_assemble.specs.Combine.{IsMixed, is_choice, is_interleave, of_key, uses}
+use Rattle.rn_assemble.specs.Components.{Component, Key, NamedModule}
+use Rattle.rn_assemble.specs.declared.diagnosing.occurrences.Occurrence.{Occurrence}
+use Rattle.rn_assemble.specs.declared.including.pieces.Piece.{Piece}
+use Rattle.rn_assemble.specs.declared.including.segments.Segment.{Segment}
+use Rattle.rn_assemble.specs.declared.reading.key_rows.WrittenComponent as code
+use Rattle.rn_assemble.specs.inside.Diagnosing.{AreOccurrences, count_in}
+use Rattle.rn_assemble.specs.inside.Pieces.{ArePieces, IsPiece, component_in, piece_components}
+use Rattle.rn_assemble.proofs.KeyFaults.PieceMethods.{count_mapped, part, piece_is}
+
+-- ---- some pass where they are counted
+
+module _ {X : Type 0} (test : X → Bool) where
+  counted_more : (x : X) (xs : List X) (b : Bool) → test x ≡ b → count_by test (x ∷ xs) ≡ cond b 1 0 + count_by test xs
+  counted_more x xs b e = sum_by-cons (λ y. cond {A = ℕ} (test y) 1 0) x xs ∙ ap (λ t. cond t 1 0 + count_by test xs) e
+
+  any_counted_at : (x : X) (xs : List X) (b : Bool) → test x ≡ b → (list_any test xs ≡ true → 0 < count_by test xs) → (test x || list_any test xs) ≡ true → 0 < count_by test (x ∷ xs)
+  any_counted_at x xs true e rest h = let more = counted_more x xs true e in omega (arith, more)
+  any_counted_at x xs false e rest h =
+      let more = counted_more x xs false e in
+      let some = rest (sym (ap (λ t. t || list_any test xs) e) ∙ h) in
+      omega (arith, more, some)
+
+  pub any_counted : (xs : List X) → list_any test xs ≡ true → 0 < count_by test xs
+  any_counted [] h = absurd (false≢true h)
+  any_counted (x ∷ xs) h = any_counted_at x xs (test x) refl (any_counted xs) h
+
+  counted_any_at : (x : X) (xs : List X) (b : Bool) → test x ≡ b → (0 < count_by test xs → list_any test xs ≡ true) → 0 < count_by test (x ∷ xs) → (test x || list_any test xs) ≡ true
+  counted_any_at x xs true e rest l = ap (λ t. t || list_any test xs) e
+  counted_any_at x xs false e rest l =
+      let more = counted_more x xs false e in
+      ap (λ t. t || list_any test xs) e ∙ rest (omega (arith, more, l))
+
+  pub counted_any : (xs : List X) → 0 < count_by test xs → list_any test xs ≡ true
+  counted_any [] l = absurd (omega (arith, l))
+  counted_any (x ∷ xs) l = counted_any_at x xs (test x) refl (counted_any xs) l
+
+-- ---- of a key
+
+module _ (modules : List NamedModule) (list : List Segment) (k : Key) (row : List code.WrittenComponent) (test : Method → Bool) where
+  counted_in : (p : Piece) → IsPiece list row p → count_by (λ (c : Component). test c.method) (piece_components modules list k row p) ≡ count_in row test p
+  counted_in p h = let r = piece_is modules list k row p h in ap (count_by (λ (c : Component). test c.method)) r.1 ∙ count_mapped (λ (c : Component). test c.method) (component_in modules k r.0) (part row p)
+
+  counted_all : (ps : List Piece) → AllByRecursion (IsPiece list row) ps → count_by (λ (c : Component). test c.method) (flat_map (piece_components modules list k row) ps) ≡ sum_by (count_in row test) ps
+  counted_all [] h = refl
+  counted_all (p ∷ ps) h =
+      sum_by-append (λ (c : Component). cond {A = ℕ} (test c.method) 1 0) (piece_components modules list k row p) (flat_map (piece_components modules list k row) ps)
+      ∙ (λ i. counted_in p h.0 i + counted_all ps h.1 i)
+      ∙ sym (sum_by-cons (count_in row test) p ps)
+
+  -- as many components of the key pass as occur
+  pub counted : (cs : List Component) (ps : List Piece) (found : List Occurrence) → ArePieces modules list k row cs ps → AreOccurrences row ps test found → length found ≡ count_by (λ (c : Component). test c.method) (of_key k cs)
+  counted cs ps found are h = h.size ∙ sym (ap (count_by (λ (c : Component). test c.method)) (sym are.are) ∙ counted_all ps are.each)
+
+-- both methods are used where components of both occur
+pub mixed_counted : (k : Key) (cs : List Component) (a b : ℕ) → a ≡ count_by (λ (c : Component). is_choice c.method) (of_key k cs) → b ≡ count_by (λ (c : Component). is_interleave c.method) (of_key k cs) → 0 < a → 0 < b → IsMixed k cs
+mixed_counted k cs a b e d l m = (λ i. counted_any (λ (c : Component). is_choice c.method) (of_key k cs) (omega (arith, e, l)) i && counted_any (λ (c : Component). is_interleave c.method) (of_key k cs) (omega (arith, d, m)) i)
+
+pub counted_mixed : (k : Key) (cs : List Component) (a b : ℕ) → a ≡ count_by (λ (c : Component). is_choice c.method) (of_key k cs) → b ≡ count_by (λ (c : Component). is_interleave c.method) (of_key k cs) → IsMixed k cs → (0 < a) × (0 < b)
+counted_mixed k cs a b e d h =
+    let p = and_parts (uses is_choice k cs) (uses is_interleave k cs) h in
+    let one = any_counted (λ (c : Component). is_choice c.method) (of_key k cs) p.0 in
+    let other = any_counted (λ (c : Component). is_interleave c.method) (of_key k cs) p.1 in
+    (omega (arith, e, one), omega (arith, d, other))

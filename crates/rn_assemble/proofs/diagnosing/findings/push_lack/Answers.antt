@@ -1,0 +1,1 @@
+use Rattle.rn_assemble.proofs.diagnosing.findings.push_lack.Goals as goal
