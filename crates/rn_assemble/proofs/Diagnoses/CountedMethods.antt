@@ -1,18 +1,25 @@
 -- How many components of a key pass a test of methods, as they occur in its pieces.
-use Rattle.std.proofs.Common.{◌≡◌, ℕ, ◌+◌, ◌<◌, Bool, true, false, ◌||◌, ◌&&◌, cond, List, [], ◌∷◌, length, flat_map, refl, sym, ap, ◌∙◌, arith}
+use Rattle.std.proofs.Common.{◌≡◌, ℕ, ◌+◌, ◌<◌, Bool, true, false, ◌||◌, ◌&&◌, cond, List, [], ◌∷◌, length, flat_map, refl, sym, ap, ◌∙◌, subst, arith}
 use Rattle.std.specs.Prelude.{count_by, sum_by}
 use Rattle.std.specs.List.{AllByRecursion, list_any}
 use Rattle.std.proofs.lemmas.Bool.{and_parts, false≢true}
 use Rattle.std.proofs.lemmas.List.Sums.{sum_by-append, sum_by-cons}
 use Rattle.rn_syntax.specs.declared.token.Method.{Method}
+use Rattle.rn_text.specs.Texts.{Text}
 use Rattle.rn_assemble.specs.Combine.{IsMixed, is_choice, is_interleave, of_key, uses}
-use Rattle.rn_assemble.specs.Components.{Component, Key, NamedModule}
+use Rattle.rn_assemble.specs.Components.{Component, Key, NamedModule, set_components}
 use Rattle.rn_assemble.specs.declared.diagnosing.occurrences.Occurrence.{Occurrence}
 use Rattle.rn_assemble.specs.declared.including.pieces.Piece.{Piece}
 use Rattle.rn_assemble.specs.declared.including.segments.Segment.{Segment}
+use Rattle.rn_assemble.specs.declared.including.segments.Segments.{Segments}
+use Rattle.rn_assemble.specs.declared.reading.key_rows.KeyRows.{KeyRows}
 use Rattle.rn_assemble.specs.declared.reading.key_rows.WrittenComponent as code
+use Rattle.rn_assemble.specs.inside.Checked.{AreExpanded}
 use Rattle.rn_assemble.specs.inside.Diagnosing.{AreOccurrences, count_in}
-use Rattle.rn_assemble.specs.inside.Pieces.{ArePieces, IsPiece, component_in, piece_components}
+use Rattle.rn_assemble.specs.inside.Keyed.{key_at}
+use Rattle.rn_assemble.specs.inside.Pieces.{ArePieces, IsPiece, OfRow, component_in, piece_components}
+use Rattle.rn_assemble.specs.inside.Rows.{row_at}
+use Rattle.rn_assemble.proofs.KeyFaults.KnownRows.{row_of}
 use Rattle.rn_assemble.proofs.KeyFaults.PieceMethods.{count_mapped, part, piece_is}
 
 -- ---- some pass where they are counted
@@ -58,6 +65,15 @@ module _ (modules : List NamedModule) (list : List Segment) (k : Key) (row : Lis
   -- as many components of the key pass as occur
   pub counted : (cs : List Component) (ps : List Piece) (found : List Occurrence) → ArePieces modules list k row cs ps → AreOccurrences row ps test found → length found ≡ count_by (λ (c : Component). test c.method) (of_key k cs)
   counted cs ps found are h = h.size ∙ sym (ap (count_by (λ (c : Component). test c.method)) (sym are.are) ∙ counted_all ps are.each)
+
+-- the same, of the key of a number and the pieces that a slice holds
+pub counted_live : (modules : List NamedModule) (names : List Text) (rows : KeyRows) (x : Segments) → AreExpanded modules names rows x → (n : ℕ) → n < length rows.rows.items → (row : List code.WrittenComponent) → row ≡ row_at rows.rows.items n
+    → (slice pieces : List Piece) → slice ≡ pieces → OfRow row x (λ ms k cs. ArePieces ms x.list.items k row cs pieces) → (test : Method → Bool) (found : List Occurrence) → AreOccurrences row slice test found
+    → length found ≡ count_by (λ (c : Component). test c.method) (of_key (key_at names n) (set_components modules))
+counted_live modules names rows x expanded n l row e slice pieces same live test found h =
+    let row_is = row_of modules names rows expanded.rows_are n l row e in
+    counted modules x.list.items (key_at names n) row test (set_components modules) pieces found (live modules (key_at names n) (set_components modules) row_is expanded.segments_are)
+    (subst (λ (ps : List Piece). AreOccurrences row ps test found) same h)
 
 -- both methods are used where components of both occur
 pub mixed_counted : (k : Key) (cs : List Component) (a b : ℕ) → a ≡ count_by (λ (c : Component). is_choice c.method) (of_key k cs) → b ≡ count_by (λ (c : Component). is_interleave c.method) (of_key k cs) → 0 < a → 0 < b → IsMixed k cs

@@ -1,5 +1,5 @@
 -- What is known of segments, rows and pieces, as it is asked for where they are read.
-use Rattle.std.proofs.Common.{◌≡◌, ℕ, ◌<◌, ◌≤◌, List, length, arith}
+use Rattle.std.proofs.Common.{◌≡◌, ℕ, ◌<◌, ◌≤◌, List, length, sym, subst, arith}
 use Rattle.std.specs.List.{AllByRecursion}
 use Rattle.rn_pattern.proofs.Ordered.InOrder.{contained_each, each_contained}
 use Rattle.rn_assemble.specs.Components.{Component, NamedModule}
@@ -39,3 +39,12 @@ module _ (row : List code.WrittenComponent) (x : Segments) (known : IsKnownRow r
 
   pub known_in_list : (n : ℕ) → n ≡ length x.list.items → AreInList n pieces
   known_in_list n e = each_contained (λ (p : Piece). p.segment < n) pieces (λ p c. let is = contained_each (IsPiece x.list.items row) pieces are.each p c in omega (arith, is.segment_within, e))
+
+-- the pieces that a slice holds, of the row of a number
+pub known_slice : (rows : KeyRows) (x : Segments) → AreKnown rows x → (n : ℕ) → n < length rows.rows.items → (row : List code.WrittenComponent) → row ≡ row_at rows.rows.items n
+    → (slice pieces : List Piece) → slice ≡ pieces → OfRow row x (λ modules k cs. ArePieces modules x.list.items k row cs pieces)
+    → (count : ℕ) → count ≡ length x.list.items → AreSomePieces row slice × AreInList count slice
+known_slice rows x k n l row e slice pieces same found count size =
+    let known = known_row rows x k n l row e in
+    let held = subst (λ (ps : List Piece). OfRow row x (λ modules j cs. ArePieces modules x.list.items j row cs ps)) (sym same) found in
+    (known_pieces row x known slice held, known_in_list row x known slice held count size)

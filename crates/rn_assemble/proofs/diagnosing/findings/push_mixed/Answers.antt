@@ -5,46 +5,27 @@ use Rattle.std.specs.Prelude.{Some}
 use Rattle.rn_assemble.specs.Components.{set_components}
 use Rattle.rn_assemble.specs.Refusal.{mixed_methods}
 use Rattle.rn_assemble.specs.declared.diagnosing.findings.Finding.{Finding}
-use Rattle.rn_assemble.specs.declared.including.pieces.Piece.{Piece}
-use Rattle.rn_assemble.specs.inside.Diagnosing.{AddsBelow, AreInList, AreOccurrences, meets}
+use Rattle.rn_assemble.specs.inside.Diagnosing.{AddsBelow, meets}
 use Rattle.rn_assemble.specs.inside.Keyed.{key_at}
-use Rattle.rn_assemble.specs.inside.Pieces.{AreSomePieces}
-use Rattle.rn_assemble.proofs.Diagnoses.CountedMethods.{counted, counted_mixed, mixed_counted}
+use Rattle.rn_assemble.proofs.Diagnoses.CountedMethods.{counted_live, counted_mixed, mixed_counted}
 use Rattle.rn_assemble.proofs.Diagnoses.KeyFindings.{all_keys, found_more, mixed_kind, none_below, none_more}
-use Rattle.rn_assemble.proofs.Diagnoses.KnownSegments.{known_in_list, known_pieces, known_row}
+use Rattle.rn_assemble.proofs.Diagnoses.KnownSegments.{known_slice}
 use Rattle.rn_assemble.proofs.Diagnoses.Lacks.{key_is}
 use Rattle.rn_assemble.proofs.Diagnoses.Occurrences.{occurs_within}
-use Rattle.rn_assemble.proofs.KeyFaults.KnownRows.{row_of}
 use Rattle.rn_assemble.proofs.diagnosing.findings.push_mixed.Goals as goal
 use Rattle.rn_assemble.proofs.diagnosing.findings.push_mixed.Goals.{then-not-is_empty+then-not-is_empty-2+in_ok-push, else-not-is_empty, else-not-is_empty-via-then-not-is_empty+else-not-is_empty-2, else-not-is_empty-via-else-not-is_empty}
 
 pub occurrences-requires-clause-pieces : goal.occurrences-requires-clause-pieces
-occurrences-requires-clause-pieces c =
-    let x = c.args.segments.now in
-    let row = c.row-row.result.now in
-    let known = known_row c.args.rows.now x c.requires.known c.loop-number.number (omega (arith, c.loop-number-test.true, c.len-number-end.ensures)) row c.row-row.ensures in
-    subst (AreSomePieces row) (sym c.deref.ensures.value) (known_pieces row x known c.live_pieces.new.pieces.items c.in_ok-live_pieces.ensures.pieces)
+occurrences-requires-clause-pieces c = (known_slice c.args.rows.now c.args.segments.now c.requires.known c.loop-number.number (omega (arith, c.loop-number-test.true, c.len-number-end.ensures)) c.row-row.result.now c.row-row.ensures c.deref.result.now c.live_pieces.new.pieces.items c.deref.ensures.value c.in_ok-live_pieces.ensures.pieces (length c.args.depths.now) c.requires.depths).0
 
 pub occurrences-requires-clause-depths : goal.occurrences-requires-clause-depths
-occurrences-requires-clause-depths c =
-    let x = c.args.segments.now in
-    let row = c.row-row.result.now in
-    let known = known_row c.args.rows.now x c.requires.known c.loop-number.number (omega (arith, c.loop-number-test.true, c.len-number-end.ensures)) row c.row-row.ensures in
-    subst (AreInList (length c.args.depths.now)) (sym c.deref.ensures.value) (known_in_list row x known c.live_pieces.new.pieces.items c.in_ok-live_pieces.ensures.pieces (length c.args.depths.now) c.requires.depths)
+occurrences-requires-clause-depths c = (known_slice c.args.rows.now c.args.segments.now c.requires.known c.loop-number.number (omega (arith, c.loop-number-test.true, c.len-number-end.ensures)) c.row-row.result.now c.row-row.ensures c.deref.result.now c.live_pieces.new.pieces.items c.deref.ensures.value c.in_ok-live_pieces.ensures.pieces (length c.args.depths.now) c.requires.depths).1
 
 pub occurrences-requires-in-loop-number-clause-pieces : goal.occurrences-requires-in-loop-number-clause-pieces
-occurrences-requires-in-loop-number-clause-pieces c =
-    let x = c.args.segments.now in
-    let row = c.row-row.result.now in
-    let known = known_row c.args.rows.now x c.requires.known c.loop-number.number (omega (arith, c.loop-number-test.true, c.len-number-end.ensures)) row c.row-row.ensures in
-    subst (AreSomePieces row) (sym c.deref-in-loop-number.ensures.value) (known_pieces row x known c.live_pieces.new.pieces.items c.in_ok-live_pieces.ensures.pieces)
+occurrences-requires-in-loop-number-clause-pieces c = (known_slice c.args.rows.now c.args.segments.now c.requires.known c.loop-number.number (omega (arith, c.loop-number-test.true, c.len-number-end.ensures)) c.row-row.result.now c.row-row.ensures c.deref-in-loop-number.result.now c.live_pieces.new.pieces.items c.deref-in-loop-number.ensures.value c.in_ok-live_pieces.ensures.pieces (length c.args.depths.now) c.requires.depths).0
 
 pub occurrences-requires-in-loop-number-clause-depths : goal.occurrences-requires-in-loop-number-clause-depths
-occurrences-requires-in-loop-number-clause-depths c =
-    let x = c.args.segments.now in
-    let row = c.row-row.result.now in
-    let known = known_row c.args.rows.now x c.requires.known c.loop-number.number (omega (arith, c.loop-number-test.true, c.len-number-end.ensures)) row c.row-row.ensures in
-    subst (AreInList (length c.args.depths.now)) (sym c.deref-in-loop-number.ensures.value) (known_in_list row x known c.live_pieces.new.pieces.items c.in_ok-live_pieces.ensures.pieces (length c.args.depths.now) c.requires.depths)
+occurrences-requires-in-loop-number-clause-depths c = (known_slice c.args.rows.now c.args.segments.now c.requires.known c.loop-number.number (omega (arith, c.loop-number-test.true, c.len-number-end.ensures)) c.row-row.result.now c.row-row.ensures c.deref-in-loop-number.result.now c.live_pieces.new.pieces.items c.deref-in-loop-number.ensures.value c.in_ok-live_pieces.ensures.pieces (length c.args.depths.now) c.requires.depths).1
 
 pub bounds-row-index : goal.bounds-row-index
 bounds-row-index c =
@@ -73,22 +54,16 @@ loop-number-init c = λ modules names expanded. none_below modules names mixed_m
 
 pub loop-number-preserved : goal.loop-number-preserved
 loop-number-preserved c = λ modules names expanded.
-    let x = c.args.segments.now in
     let n = c.loop-number.number in
-    let key = key_at names n in
-    let row = c.row-row.result.now in
-    let cs = set_components modules in
-    let pieces = c.live_pieces.new.pieces.items in
-    let below : n < length c.args.rows.now.rows.items = omega (arith, c.loop-number-test.true, c.len-number-end.ensures) in
-    let row_is = row_of modules names c.args.rows.now expanded.rows_are n below row c.row-row.ensures in
-    let are = c.in_ok-live_pieces.ensures.pieces modules key cs row_is expanded.segments_are in
     let old = c.args.found.now.items in
     let found = c.loop-number.found.items in
     let inv = c.loop-number.invariant modules names expanded in
+    let key = key_at names n in
+    let cs = set_components modules in
     let choices = c.in_ok-choices.choices.items in
     let interleaves = c.in_ok-interleaves.interleaves.items in
-    let a = counted modules x.list.items key row (meets (Some m.Choice)) cs pieces choices are (subst (λ (ps : List Piece). AreOccurrences row ps (meets (Some m.Choice)) choices) c.deref.ensures.value c.in_ok-choices.ensures) in
-    let b = counted modules x.list.items key row (meets (Some m.Interleave)) cs pieces interleaves are (subst (λ (ps : List Piece). AreOccurrences row ps (meets (Some m.Interleave)) interleaves) c.deref-in-loop-number.ensures.value c.in_ok-interleaves.ensures) in
+    let a = counted_live modules names c.args.rows.now c.args.segments.now expanded n (omega (arith, c.loop-number-test.true, c.len-number-end.ensures)) c.row-row.result.now c.row-row.ensures c.deref.result.now c.live_pieces.new.pieces.items c.deref.ensures.value c.in_ok-live_pieces.ensures.pieces (meets (Some m.Choice)) choices c.in_ok-choices.ensures in
+    let b = counted_live modules names c.args.rows.now c.args.segments.now expanded n (omega (arith, c.loop-number-test.true, c.len-number-end.ensures)) c.row-row.result.now c.row-row.ensures c.deref-in-loop-number.result.now c.live_pieces.new.pieces.items c.deref-in-loop-number.ensures.value c.in_ok-live_pieces.ensures.pieces (meets (Some m.Interleave)) interleaves c.in_ok-interleaves.ensures in
     elim c.if-not-is_empty.branch [
       | then-not-is_empty+then-not-is_empty-2+in_ok-push w ↦
           let some : 0 < length choices = grind (arith, w.if-not-is_empty.true, c.is_empty.ensures, c.in_ok-choices.choices.ok) in
