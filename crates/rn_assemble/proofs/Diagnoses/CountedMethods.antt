@@ -1,5 +1,5 @@
 -- How many components of a key pass a test of methods, as they occur in its pieces.
-use Rattle.std.proofs.Common.{◌≡◌, ℕ, ◌+◌, ◌<◌, Bool, true, false, ◌||◌, ◌&&◌, cond, List, [], ◌∷◌, length, flat_map, refl, sym, ap, ◌∙◌, subst, arith}
+use Rattle.std.proofs.Common.{◌≡◌, ◌≤◌, ◌⊎◌, inl, inr, ⊎_elim, ℕ, ◌+◌, ◌<◌, Bool, true, false, ◌||◌, ◌&&◌, cond, List, [], ◌∷◌, length, flat_map, refl, sym, ap, ◌∙◌, subst, arith}
 use Rattle.std.specs.Prelude.{count_by, sum_by}
 use Rattle.std.specs.List.{AllByRecursion, list_any}
 use Rattle.std.proofs.lemmas.Bool.{and_parts, false≢true}
@@ -15,7 +15,7 @@ use Rattle.rn_assemble.specs.declared.including.segments.Segments.{Segments}
 use Rattle.rn_assemble.specs.declared.reading.key_rows.KeyRows.{KeyRows}
 use Rattle.rn_assemble.specs.declared.reading.key_rows.WrittenComponent as code
 use Rattle.rn_assemble.specs.inside.Checked.{AreExpanded}
-use Rattle.rn_assemble.specs.inside.Diagnosing.{AreOccurrences, count_in}
+use Rattle.rn_assemble.specs.inside.Diagnosing.{AreFirstTwo, count_in}
 use Rattle.rn_assemble.specs.inside.Keyed.{key_at}
 use Rattle.rn_assemble.specs.inside.Pieces.{ArePieces, IsPiece, OfRow, component_in, piece_components}
 use Rattle.rn_assemble.specs.inside.Rows.{row_at}
@@ -49,6 +49,17 @@ module _ {X : Type 0} (test : X → Bool) where
   counted_any [] l = absurd (omega (arith, l))
   counted_any (x ∷ xs) l = counted_any_at x xs (test x) refl (counted_any xs) l
 
+-- n are found, of m that there are: all, or two of them
+abbrev AreTwoOf : (n m : ℕ) → Type 0
+AreTwoOf n m = (n ≤ m) × ((n ≡ m) ⊎ (n ≡ 2))
+
+some_found : (n m : ℕ) → AreTwoOf n m → 0 < m → 0 < n
+some_found n m h l = ⊎_elim (λ e. omega (arith, e, l)) (λ e. omega (arith, e)) h.1
+
+-- two are found where there are two
+pub two_found : (n m : ℕ) → AreTwoOf n m → 1 < m → 1 < n
+two_found n m h l = ⊎_elim (λ e. omega (arith, e, l)) (λ e. omega (arith, e)) h.1
+
 -- ---- of a key
 
 module _ (modules : List NamedModule) (list : List Segment) (k : Key) (row : List code.WrittenComponent) (test : Method → Bool) where
@@ -62,26 +73,28 @@ module _ (modules : List NamedModule) (list : List Segment) (k : Key) (row : Lis
       ∙ (λ i. counted_in p h.0 i + counted_all ps h.1 i)
       ∙ sym (sum_by-cons (count_in row test) p ps)
 
-  -- as many components of the key pass as occur
-  pub counted : (cs : List Component) (ps : List Piece) (found : List Occurrence) → ArePieces modules list k row cs ps → AreOccurrences row ps test found → length found ≡ count_by (λ (c : Component). test c.method) (of_key k cs)
-  counted cs ps found are h = h.size ∙ sym (ap (count_by (λ (c : Component). test c.method)) (sym are.are) ∙ counted_all ps are.each)
+  -- as many components of the key pass as are found, or more, where two are
+  pub counted : (cs : List Component) (ps : List Piece) (found : List Occurrence) → ArePieces modules list k row cs ps → AreFirstTwo row ps test found → AreTwoOf (length found) (count_by (λ (c : Component). test c.method) (of_key k cs))
+  counted cs ps found are h =
+      let all = ap (count_by (λ (c : Component). test c.method)) (sym are.are) ∙ counted_all ps are.each in
+      (omega (arith, h.few, all), ⊎_elim (λ e. inl (e ∙ sym all)) inr h.enough)
 
 -- the same, of the key of a number and the pieces that a slice holds
 pub counted_live : (modules : List NamedModule) (names : List Text) (rows : KeyRows) (x : Segments) → AreExpanded modules names rows x → (n : ℕ) → n < length rows.rows.items → (row : List code.WrittenComponent) → row ≡ row_at rows.rows.items n
-    → (slice pieces : List Piece) → slice ≡ pieces → OfRow row x (λ ms k cs. ArePieces ms x.list.items k row cs pieces) → (test : Method → Bool) (found : List Occurrence) → AreOccurrences row slice test found
-    → length found ≡ count_by (λ (c : Component). test c.method) (of_key (key_at names n) (set_components modules))
+    → (slice pieces : List Piece) → slice ≡ pieces → OfRow row x (λ ms k cs. ArePieces ms x.list.items k row cs pieces) → (test : Method → Bool) (found : List Occurrence) → AreFirstTwo row slice test found
+    → AreTwoOf (length found) (count_by (λ (c : Component). test c.method) (of_key (key_at names n) (set_components modules)))
 counted_live modules names rows x expanded n l row e slice pieces same live test found h =
     let row_is = row_of modules names rows expanded.rows_are n l row e in
     counted modules x.list.items (key_at names n) row test (set_components modules) pieces found (live modules (key_at names n) (set_components modules) row_is expanded.segments_are)
-    (subst (λ (ps : List Piece). AreOccurrences row ps test found) same h)
+    (subst (λ (ps : List Piece). AreFirstTwo row ps test found) same h)
 
 -- both methods are used where components of both occur
-pub mixed_counted : (k : Key) (cs : List Component) (a b : ℕ) → a ≡ count_by (λ (c : Component). is_choice c.method) (of_key k cs) → b ≡ count_by (λ (c : Component). is_interleave c.method) (of_key k cs) → 0 < a → 0 < b → IsMixed k cs
-mixed_counted k cs a b e d l m = (λ i. counted_any (λ (c : Component). is_choice c.method) (of_key k cs) (omega (arith, e, l)) i && counted_any (λ (c : Component). is_interleave c.method) (of_key k cs) (omega (arith, d, m)) i)
+pub mixed_counted : (k : Key) (cs : List Component) (a b : ℕ) → AreTwoOf a (count_by (λ (c : Component). is_choice c.method) (of_key k cs)) → AreTwoOf b (count_by (λ (c : Component). is_interleave c.method) (of_key k cs)) → 0 < a → 0 < b → IsMixed k cs
+mixed_counted k cs a b e d l m = (λ i. counted_any (λ (c : Component). is_choice c.method) (of_key k cs) (omega (arith, e.0, l)) i && counted_any (λ (c : Component). is_interleave c.method) (of_key k cs) (omega (arith, d.0, m)) i)
 
-pub counted_mixed : (k : Key) (cs : List Component) (a b : ℕ) → a ≡ count_by (λ (c : Component). is_choice c.method) (of_key k cs) → b ≡ count_by (λ (c : Component). is_interleave c.method) (of_key k cs) → IsMixed k cs → (0 < a) × (0 < b)
+pub counted_mixed : (k : Key) (cs : List Component) (a b : ℕ) → AreTwoOf a (count_by (λ (c : Component). is_choice c.method) (of_key k cs)) → AreTwoOf b (count_by (λ (c : Component). is_interleave c.method) (of_key k cs)) → IsMixed k cs → (0 < a) × (0 < b)
 counted_mixed k cs a b e d h =
     let p = and_parts (uses is_choice k cs) (uses is_interleave k cs) h in
     let one = any_counted (λ (c : Component). is_choice c.method) (of_key k cs) p.0 in
     let other = any_counted (λ (c : Component). is_interleave c.method) (of_key k cs) p.1 in
-    (omega (arith, e, one), omega (arith, d, other))
+    (some_found a _ e one, some_found b _ d other)

@@ -121,7 +121,9 @@ module _ (modules : List NamedModule) (names : List Text) (x : Segments) where
       every (override y k) e t =
           let i = (expanded.lacks y k).1 t in
           let (n, below, key) = lacked_number modules names x expanded.rows_are.names_are i.include k i.lacks in
-          let (l, among, is) = h.all n (omega (arith, below, size)) i.include i.among (subst (IsLackOf modules x.list.items i.include) key i.lacks) in
-          (lack_finding l, map_contains lack_finding ls l among,
-          (λ j. override ((ap (name_at modules) is.1 ∙ i.name_is) j) ((key_is names l.key.0 ∙ ap (key_at names) is.0 ∙ sym key) j)))
+          let (l, among, is) = h.all n (omega (arith, below, size)) i.include i.among (subst (IsLackOf modules x.list.items i.include) key i.lacks) in (
+            lack_finding l,
+            map_contains lack_finding ls l among,
+            (λ j. override ((ap (name_at modules) is.1 ∙ i.name_is) j) ((key_is names l.key.0 ∙ ap (key_at names) is.0 ∙ sym key) j)),
+          )
       every q e t = absurd (omega (arith, e))

@@ -49,10 +49,18 @@ pub record AddsOccurrences (row : List code.WrittenComponent) (p : Piece) (test 
   pub each : AllByRecursion (IsInPiece row test p) added
   pub size : length added ≡ count_in row test p
 
--- as many components as pass in the pieces, each of one of them
-pub record AreOccurrences (row : List code.WrittenComponent) (pieces : List Piece) (test : Method → Bool) (found : List Occurrence) : Type 0 where
+-- some are left out, so that there are two at most
+pub record KeepsTwo (old new : List Occurrence) : Type 0 where
+  pub each : (o : Occurrence) → Contains new o → Contains old o
+  pub most : length new ≤ 2
+  pub few : length new ≤ length old
+  pub enough : (length new ≡ length old) ⊎ (length new ≡ 2)
+
+-- two of the components in the pieces that pass, or all of them where there are fewer
+pub record AreFirstTwo (row : List code.WrittenComponent) (pieces : List Piece) (test : Method → Bool) (found : List Occurrence) : Type 0 where
   pub each : AllByRecursion (λ (o : Occurrence). (p : Piece) × Contains pieces p × IsInPiece row test p o) found
-  pub size : length found ≡ sum_by (count_in row test) pieces
+  pub few : length found ≤ sum_by (count_in row test) pieces
+  pub enough : (length found ≡ sum_by (count_in row test) pieces) ⊎ (length found ≡ 2)
 
 -- the pieces are in the first segments, of which there are n
 abbrev pub AreInList : ℕ → List Piece → Type 0

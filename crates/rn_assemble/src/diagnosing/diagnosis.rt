@@ -13,7 +13,7 @@ ghost use Rattle.rn_assemble.specs.inside.Views.{AreInOrder, modules_view, names
 use super::findings::{Finding, findings};
 use super::left_definitions::left_definitions;
 use super::loops::loop_of;
-use super::occurrences::{depths_of, occurrences};
+use super::occurrences::{depths_of, first_two};
 use super::places::{ComponentPlace, LeftDefinition};
 use crate::including::inclusion::included_roots;
 use crate::including::segments::Segments;
@@ -169,7 +169,7 @@ fn first_of(
     let mut pieces = Vec::new(alloc);
     segments.live_pieces(row, &mut pieces)?;
     let depths = depths_of(alloc, segments)?;
-    let found = occurrences(alloc, row, &pieces, &depths, None)?;
+    let found = first_two(alloc, row, &pieces, &depths, None)?;
     let mut places = Vec::new(alloc);
     if let Some(first) = found.first() {
         places.push(ComponentPlace::of(&row[first.index]))?;

@@ -12,7 +12,7 @@ ghost use Rattle.rn_assemble.specs.inside.Runs.{IsOrderedRow};
 ghost use Rattle.rn_assemble.specs.inside.Segments.{AreSegmentsOf, IsLackOf};
 ghost use Rattle.rn_assemble.specs.inside.Views.{names_of};
 
-use super::occurrences::{Occurrence, depths_of, occurrences, parting_includes};
+use super::occurrences::{Occurrence, depths_of, first_two, parting_includes};
 use super::places::{ComponentPlace, IncludePlace, ReferencePlace};
 use super::undefined_names::undefined_names;
 use crate::including::pieces::{Piece, first_own, lacks};
@@ -239,7 +239,7 @@ fn push_plain_twice(
         let key = KeyId(number);
         let row = rows.row(key);
         segments.live_pieces(row, &mut pieces)?;
-        let plain = occurrences(alloc, row, &pieces, depths, Some(Method::Plain))?;
+        let plain = first_two(alloc, row, &pieces, depths, Some(Method::Plain))?;
         if plain.len() > 1 {
             found.push(plain_twice(key, row, segments, plain[0], plain[1]))?;
         }
@@ -291,8 +291,8 @@ fn push_mixed(
         let key = KeyId(number);
         let row = rows.row(key);
         segments.live_pieces(row, &mut pieces)?;
-        let choices = occurrences(alloc, row, &pieces, depths, Some(Method::Choice))?;
-        let interleaves = occurrences(alloc, row, &pieces, depths, Some(Method::Interleave))?;
+        let choices = first_two(alloc, row, &pieces, depths, Some(Method::Choice))?;
+        let interleaves = first_two(alloc, row, &pieces, depths, Some(Method::Interleave))?;
         if !choices.is_empty() && !interleaves.is_empty() {
             found.push(Finding::MixedMethods {
                 key,

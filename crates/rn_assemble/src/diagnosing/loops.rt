@@ -46,7 +46,11 @@ fn places_along(
 {
     let mut places = Vec::new(alloc);
     for at in 0..passed.len() {
-        let next = if at + 1 < passed.len() { passed[at + 1] } else { passed[0] };
+        let next = if at + 1 < passed.len() {
+            passed[at + 1]
+        } else {
+            passed[0]
+        };
         let name = keys.name(KeyId(next));
         if passed[at] < rows.len() {
             let row = rows.row(KeyId(passed[at]));
@@ -86,5 +90,8 @@ fn refers_outside(
 ) -> Result<bool, AllocError> {
     let mut references = Vec::new(alloc);
     refer(&component.body, Reach::OutsideElements, &mut references)?;
-    Ok(references.iter().any(|one: &Reference<'_>| one.reach == Reach::OutsideElements && one.name == name))
+    Ok(
+        references.iter().any(|one: &Reference<'_>| one.reach == Reach::OutsideElements
+            && one.name == name),
+    )
 }

@@ -1,6 +1,6 @@
 // Which components of a key come first: those by fewer includes, and then in the order in which they are combined.
 ghost use Rattle.std.specs.Prelude.{◌≡◌, ◌≤◌, IfOk, length};
-ghost use Rattle.rn_assemble.specs.inside.Diagnosing.{AddsOccurrences, AreOccurrences, AreInList, HasBrought, meets};
+ghost use Rattle.rn_assemble.specs.inside.Diagnosing.{AddsOccurrences, AreFirstTwo, AreInList, HasBrought, KeepsTwo, meets};
 ghost use Rattle.rn_assemble.specs.inside.Pieces.{AreSomePieces};
 
 use super::places::{ComponentPlace, IncludePlace};
@@ -21,9 +21,10 @@ pub(crate) struct Occurrence {
     pub index: usize,
 }
 
-/// Of the components of these pieces those that have the method, or all where none is given; `depths` has the depth of
-/// each segment.
-pub(crate) fn occurrences(
+/// The first two of the components of these pieces that have the method, or of all where none is given; fewer where there
+/// are fewer. `depths` has the depth of each segment. A row may come so often that no list has all: memory is for those
+/// of one piece.
+pub(crate) fn first_two(
     alloc: Global,
     row: &[WrittenComponent<'_>],
     pieces: &[Piece],
@@ -32,14 +33,23 @@ pub(crate) fn occurrences(
 ) -> Result<Vec<Occurrence>, AllocError>
     requires pieces { AreSomePieces row.now pieces.now }
     requires depths { AreInList (length depths.now) pieces.now }
-    ensures { IfOk result (λ found. AreOccurrences row.now pieces.now (meets method) found.items) }
+    ensures { IfOk result (λ found. AreFirstTwo row.now pieces.now (meets method) found.items) }
 {
     let mut found = Vec::new(alloc);
     for piece in pieces {
         push_occurrences(row, piece, depths[piece.segment], method, &mut found)?;
+        keep_two(&mut found)?;
     }
-    found.sort_by_key(|one: &Occurrence| (one.depth, one.segment, one.index))?;
     Ok(found)
+}
+
+/// Leaves the first two.
+fn keep_two(found: &mut Vec<Occurrence>) -> Result<(), AllocError>
+    ensures { IfOk result (λ _. KeepsTwo found.old.items found.new.items) }
+{
+    found.sort_by_key(|one: &Occurrence| (one.depth, one.segment, one.index))?;
+    found.truncate(2);
+    Ok(())
 }
 
 /// Adds the components of a piece that have the method, or all where none is given.

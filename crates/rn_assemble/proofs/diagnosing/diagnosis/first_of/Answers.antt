@@ -8,12 +8,12 @@ use Rattle.rn_assemble.proofs.diagnosing.diagnosis.first_of.Goals as goal
 pub depths_of-requires : goal.depths_of-requires
 depths_of-requires c = has_brought c.requires.modules c.args.segments.now c.requires.components c.requires.segments_are
 
-pub occurrences-requires-clause-pieces : goal.occurrences-requires-clause-pieces
-occurrences-requires-clause-pieces c =
+pub first_two-requires-clause-pieces : goal.first_two-requires-clause-pieces
+first_two-requires-clause-pieces c =
     let row = c.args.row.now in
     subst (AreSomePieces row) (sym c.deref.ensures.value) (known_pieces row c.args.segments.now c.requires c.live_pieces.new.pieces.items c.in_ok-live_pieces.ensures.pieces)
 
-pub occurrences-requires-clause-depths : goal.occurrences-requires-clause-depths
-occurrences-requires-clause-depths c =
+pub first_two-requires-clause-depths : goal.first_two-requires-clause-depths
+first_two-requires-clause-depths c =
     let size = ap length c.deref-2.ensures.value ∙ c.in_ok-depths.ensures in
     subst (AreInList (length c.deref-2.result.now)) (sym c.deref.ensures.value) (known_in_list c.args.row.now c.args.segments.now c.requires c.live_pieces.new.pieces.items c.in_ok-live_pieces.ensures.pieces (length c.deref-2.result.now) size)

@@ -15,17 +15,17 @@ use Rattle.rn_assemble.proofs.Diagnoses.Occurrences.{occurs_within}
 use Rattle.rn_assemble.proofs.diagnosing.findings.push_mixed.Goals as goal
 use Rattle.rn_assemble.proofs.diagnosing.findings.push_mixed.Goals.{then-not-is_empty+then-not-is_empty-2+in_ok-push, else-not-is_empty, else-not-is_empty-via-then-not-is_empty+else-not-is_empty-2, else-not-is_empty-via-else-not-is_empty}
 
-pub occurrences-requires-clause-pieces : goal.occurrences-requires-clause-pieces
-occurrences-requires-clause-pieces c = (known_slice c.args.rows.now c.args.segments.now c.requires.known c.loop-number.number (omega (arith, c.loop-number-test.true, c.len-number-end.ensures)) c.row-row.result.now c.row-row.ensures c.deref.result.now c.live_pieces.new.pieces.items c.deref.ensures.value c.in_ok-live_pieces.ensures.pieces (length c.args.depths.now) c.requires.depths).0
+pub first_two-requires-clause-pieces : goal.first_two-requires-clause-pieces
+first_two-requires-clause-pieces c = (known_slice c.args.rows.now c.args.segments.now c.requires.known c.loop-number.number (omega (arith, c.loop-number-test.true, c.len-number-end.ensures)) c.row-row.result.now c.row-row.ensures c.deref.result.now c.live_pieces.new.pieces.items c.deref.ensures.value c.in_ok-live_pieces.ensures.pieces (length c.args.depths.now) c.requires.depths).0
 
-pub occurrences-requires-clause-depths : goal.occurrences-requires-clause-depths
-occurrences-requires-clause-depths c = (known_slice c.args.rows.now c.args.segments.now c.requires.known c.loop-number.number (omega (arith, c.loop-number-test.true, c.len-number-end.ensures)) c.row-row.result.now c.row-row.ensures c.deref.result.now c.live_pieces.new.pieces.items c.deref.ensures.value c.in_ok-live_pieces.ensures.pieces (length c.args.depths.now) c.requires.depths).1
+pub first_two-requires-clause-depths : goal.first_two-requires-clause-depths
+first_two-requires-clause-depths c = (known_slice c.args.rows.now c.args.segments.now c.requires.known c.loop-number.number (omega (arith, c.loop-number-test.true, c.len-number-end.ensures)) c.row-row.result.now c.row-row.ensures c.deref.result.now c.live_pieces.new.pieces.items c.deref.ensures.value c.in_ok-live_pieces.ensures.pieces (length c.args.depths.now) c.requires.depths).1
 
-pub occurrences-requires-in-loop-number-clause-pieces : goal.occurrences-requires-in-loop-number-clause-pieces
-occurrences-requires-in-loop-number-clause-pieces c = (known_slice c.args.rows.now c.args.segments.now c.requires.known c.loop-number.number (omega (arith, c.loop-number-test.true, c.len-number-end.ensures)) c.row-row.result.now c.row-row.ensures c.deref-in-loop-number.result.now c.live_pieces.new.pieces.items c.deref-in-loop-number.ensures.value c.in_ok-live_pieces.ensures.pieces (length c.args.depths.now) c.requires.depths).0
+pub first_two-requires-in-loop-number-clause-pieces : goal.first_two-requires-in-loop-number-clause-pieces
+first_two-requires-in-loop-number-clause-pieces c = (known_slice c.args.rows.now c.args.segments.now c.requires.known c.loop-number.number (omega (arith, c.loop-number-test.true, c.len-number-end.ensures)) c.row-row.result.now c.row-row.ensures c.deref-in-loop-number.result.now c.live_pieces.new.pieces.items c.deref-in-loop-number.ensures.value c.in_ok-live_pieces.ensures.pieces (length c.args.depths.now) c.requires.depths).0
 
-pub occurrences-requires-in-loop-number-clause-depths : goal.occurrences-requires-in-loop-number-clause-depths
-occurrences-requires-in-loop-number-clause-depths c = (known_slice c.args.rows.now c.args.segments.now c.requires.known c.loop-number.number (omega (arith, c.loop-number-test.true, c.len-number-end.ensures)) c.row-row.result.now c.row-row.ensures c.deref-in-loop-number.result.now c.live_pieces.new.pieces.items c.deref-in-loop-number.ensures.value c.in_ok-live_pieces.ensures.pieces (length c.args.depths.now) c.requires.depths).1
+pub first_two-requires-in-loop-number-clause-depths : goal.first_two-requires-in-loop-number-clause-depths
+first_two-requires-in-loop-number-clause-depths c = (known_slice c.args.rows.now c.args.segments.now c.requires.known c.loop-number.number (omega (arith, c.loop-number-test.true, c.len-number-end.ensures)) c.row-row.result.now c.row-row.ensures c.deref-in-loop-number.result.now c.live_pieces.new.pieces.items c.deref-in-loop-number.ensures.value c.in_ok-live_pieces.ensures.pieces (length c.args.depths.now) c.requires.depths).1
 
 pub bounds-row-index : goal.bounds-row-index
 bounds-row-index c =
@@ -73,11 +73,11 @@ loop-number-preserved c = λ modules names expanded.
       | else-not-is_empty w ↦
           subst (λ (fs : List Finding). AddsBelow modules names mixed_methods (n + 1) old fs) (sym (ap (λ v. v.items) w.found-is))
           (none_more modules names mixed_methods n old found inv (λ t.
-              let (l, k) = counted_mixed key cs (length choices) (length interleaves) a b t in
-              elim w.else-not-is_empty.branch [
-                | else-not-is_empty-via-then-not-is_empty+else-not-is_empty-2 v ↦ grind (arith, v.if-not-is_empty-2.false, v.is_empty-then-not-is_empty.ensures, c.in_ok-interleaves.interleaves.ok, k)
-                | else-not-is_empty-via-else-not-is_empty v ↦ grind (arith, v.if-not-is_empty.false, c.is_empty.ensures, c.in_ok-choices.choices.ok, l)
-              ]))
+          let (l, k) = counted_mixed key cs (length choices) (length interleaves) a b t in
+          elim w.else-not-is_empty.branch [
+            | else-not-is_empty-via-then-not-is_empty+else-not-is_empty-2 v ↦ grind (arith, v.if-not-is_empty-2.false, v.is_empty-then-not-is_empty.ensures, c.in_ok-interleaves.interleaves.ok, k)
+            | else-not-is_empty-via-else-not-is_empty v ↦ grind (arith, v.if-not-is_empty.false, c.is_empty.ensures, c.in_ok-choices.choices.ok, l)
+          ]))
     ]
 
 pub returns : goal.returns

@@ -5,7 +5,7 @@ use Rattle.std.specs.Prelude.{Some}
 use Rattle.rn_assemble.specs.Refusal.{plain_twice}
 use Rattle.rn_assemble.specs.declared.diagnosing.findings.Finding.{Finding}
 use Rattle.rn_assemble.specs.inside.Diagnosing.{AddsBelow, meets}
-use Rattle.rn_assemble.proofs.Diagnoses.CountedMethods.{counted_live}
+use Rattle.rn_assemble.proofs.Diagnoses.CountedMethods.{counted_live, two_found}
 use Rattle.rn_assemble.proofs.Diagnoses.KeyFindings.{all_keys, found_more, plain_kind, none_below, none_more}
 use Rattle.rn_assemble.proofs.Diagnoses.KnownSegments.{known_slice}
 use Rattle.rn_assemble.proofs.Diagnoses.Lacks.{key_is}
@@ -13,11 +13,11 @@ use Rattle.rn_assemble.proofs.Diagnoses.Occurrences.{occurs_within}
 use Rattle.rn_assemble.proofs.diagnosing.findings.push_plain_twice.Goals as goal
 use Rattle.rn_assemble.proofs.diagnosing.findings.push_plain_twice.Goals.{then-len-gt1+in_ok-push, else-len-gt1}
 
-pub occurrences-requires-clause-pieces : goal.occurrences-requires-clause-pieces
-occurrences-requires-clause-pieces c = (known_slice c.args.rows.now c.args.segments.now c.requires.known c.loop-number.number (omega (arith, c.loop-number-test.true, c.len-number-end.ensures)) c.row-row.result.now c.row-row.ensures c.deref.result.now c.live_pieces.new.pieces.items c.deref.ensures.value c.in_ok-live_pieces.ensures.pieces (length c.args.depths.now) c.requires.depths).0
+pub first_two-requires-clause-pieces : goal.first_two-requires-clause-pieces
+first_two-requires-clause-pieces c = (known_slice c.args.rows.now c.args.segments.now c.requires.known c.loop-number.number (omega (arith, c.loop-number-test.true, c.len-number-end.ensures)) c.row-row.result.now c.row-row.ensures c.deref.result.now c.live_pieces.new.pieces.items c.deref.ensures.value c.in_ok-live_pieces.ensures.pieces (length c.args.depths.now) c.requires.depths).0
 
-pub occurrences-requires-clause-depths : goal.occurrences-requires-clause-depths
-occurrences-requires-clause-depths c = (known_slice c.args.rows.now c.args.segments.now c.requires.known c.loop-number.number (omega (arith, c.loop-number-test.true, c.len-number-end.ensures)) c.row-row.result.now c.row-row.ensures c.deref.result.now c.live_pieces.new.pieces.items c.deref.ensures.value c.in_ok-live_pieces.ensures.pieces (length c.args.depths.now) c.requires.depths).1
+pub first_two-requires-clause-depths : goal.first_two-requires-clause-depths
+first_two-requires-clause-depths c = (known_slice c.args.rows.now c.args.segments.now c.requires.known c.loop-number.number (omega (arith, c.loop-number-test.true, c.len-number-end.ensures)) c.row-row.result.now c.row-row.ensures c.deref.result.now c.live_pieces.new.pieces.items c.deref.ensures.value c.in_ok-live_pieces.ensures.pieces (length c.args.depths.now) c.requires.depths).1
 
 pub plain_twice-requires-clause-first : goal.plain_twice-requires-clause-first
 plain_twice-requires-clause-first c =
@@ -41,11 +41,11 @@ loop-number-preserved c = λ modules names expanded.
     let a = counted_live modules names c.args.rows.now c.args.segments.now expanded n (omega (arith, c.loop-number-test.true, c.len-number-end.ensures)) c.row-row.result.now c.row-row.ensures c.deref.result.now c.live_pieces.new.pieces.items c.deref.ensures.value c.in_ok-live_pieces.ensures.pieces (meets (Some m.Plain)) c.in_ok-plain.plain.items c.in_ok-plain.ensures in
     elim c.if-len-gt1.branch [
       | then-len-gt1+in_ok-push w ↦
-          found_more modules names plain_twice n old found inv w.plain_twice.result (w.plain_twice.ensures modules ([] ∷ names) ∙ ap plain_twice (key_is names n)) (omega (arith, a, w.if-len-gt1.true, c.len.ensures, c.in_ok-plain.plain.ok.0)) c.if-len-gt1.found.items
+          found_more modules names plain_twice n old found inv w.plain_twice.result (w.plain_twice.ensures modules ([] ∷ names) ∙ ap plain_twice (key_is names n)) (omega (arith, a.0, w.if-len-gt1.true, c.len.ensures, c.in_ok-plain.plain.ok.0)) c.if-len-gt1.found.items
           (ap (λ v. v.items) w.found-is ∙ w.in_ok-push.ensures.items)
       | else-len-gt1 w ↦
           subst (λ (fs : List Finding). AddsBelow modules names plain_twice (n + 1) old fs) (sym (ap (λ v. v.items) w.found-is))
-          (none_more modules names plain_twice n old found inv (λ t. omega (arith, a, t, w.if-len-gt1.false, c.len.ensures, c.in_ok-plain.plain.ok.0)))
+          (none_more modules names plain_twice n old found inv (λ t. omega (arith, two_found _ _ a t, w.if-len-gt1.false, c.len.ensures, c.in_ok-plain.plain.ok.0)))
     ]
 
 pub returns : goal.returns
