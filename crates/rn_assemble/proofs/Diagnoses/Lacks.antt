@@ -1,13 +1,11 @@
 -- Overrides of what isn't there, gathered include by include and key by key.
-use Rattle.std.proofs.Common.{◌≡◌, ℕ, zero, suc, ◌+◌, ◌<◌, ⊎_elim, inl, inr, false, true, List, [], ◌∷◌, ◌++◌, length, take, get_or, map, refl, sym, ap, ◌∙◌, subst, arith, append_assoc, append-nil}
-use Rattle.std.specs.Prelude.{Contains, IsPermutation}
-use Rattle.std.specs.List.{AllByRecursion}
+use Rattle.std.proofs.Common.{◌≡◌, ℕ, zero, suc, ◌+◌, ⊎_elim, inl, inr, List, [], ◌∷◌, ◌++◌, length, map, refl, sym, ap, ◌∙◌, subst, arith, append_assoc, append-nil}
+use Rattle.std.specs.Prelude.{Contains}
 use Rattle.std.proofs.lemmas.Bool.{cases_lt}
-use Rattle.std.proofs.lemmas.List.{take_more}
 use Rattle.std.proofs.lemmas.List.Elements.{Contains-append_cases, Contains-append_left, Contains-append_right, Contains-push, Contains-push_cases}
 use Rattle.rn_text.specs.Texts.{Text}
 use Rattle.rn_pattern.proofs.Ordered.InOrder.{each_contained}
-use Rattle.rn_assemble.specs.Components.{Key, NamedModule}
+use Rattle.rn_assemble.specs.Components.{NamedModule}
 use Rattle.rn_assemble.specs.Diagnosed.{IsTrueFor, finding_refusal, key_numbered}
 use Rattle.rn_assemble.specs.Refusal.{Refusal, override, rank}
 use Rattle.rn_assemble.specs.declared.diagnosing.findings.Finding.{Finding}
@@ -15,7 +13,6 @@ use Rattle.rn_assemble.specs.declared.diagnosing.findings.Lack.{Lack}
 use Rattle.rn_assemble.specs.declared.including.segments.FollowedInclude.{FollowedInclude}
 use Rattle.rn_assemble.specs.declared.including.segments.Segments.{Segments}
 use Rattle.rn_assemble.specs.declared.reading.key_rows.KeyRows.{KeyRows}
-use Rattle.rn_assemble.specs.inside.Bringing.{IsLackIn}
 use Rattle.rn_assemble.specs.inside.Checked.{AreExpanded}
 use Rattle.rn_assemble.specs.inside.ContentsOf.{name_at}
 use Rattle.rn_assemble.specs.inside.Diagnosing.{AddsLack, AddsLacks, AddsRank, AreLacks, IsLackBy, KeepsLacks, lack_finding}
@@ -121,7 +118,9 @@ module _ (modules : List NamedModule) (names : List Text) (x : Segments) where
       every (override y k) e t =
           let i = (expanded.lacks y k).1 t in
           let (n, below, key) = lacked_number modules names x expanded.rows_are.names_are i.include k i.lacks in
-          let (l, among, is) = h.all n (omega (arith, below, size)) i.include i.among (subst (IsLackOf modules x.list.items i.include) key i.lacks) in
-          (lack_finding l, map_contains lack_finding ls l among,
-          (λ j. override ((ap (name_at modules) is.1 ∙ i.name_is) j) ((key_is names l.key.0 ∙ ap (key_at names) is.0 ∙ sym key) j)))
+          let (l, among, is) = h.all n (omega (arith, below, size)) i.include i.among (subst (IsLackOf modules x.list.items i.include) key i.lacks) in (
+            lack_finding l,
+            map_contains lack_finding ls l among,
+            (λ j. override ((ap (name_at modules) is.1 ∙ i.name_is) j) ((key_is names l.key.0 ∙ ap (key_at names) is.0 ∙ sym key) j)),
+          )
       every q e t = absurd (omega (arith, e))

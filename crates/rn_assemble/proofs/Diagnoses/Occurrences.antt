@@ -1,9 +1,9 @@
 -- The components of pieces that pass a test of methods, gathered one after the other.
-use Rattle.std.proofs.Common.{◌≡◌, ℕ, ◌+◌, ◌-◌, ◌<◌, ◌≤◌, inl, inr, ⊎_elim, Bool, true, false, List, [], ◌∷◌, ◌++◌, length, take, drop, get_or, Some, refl, sym, ap, ◌∙◌, subst, arith, append_assoc, append-nil, length-append, length-drop}
+use Rattle.std.proofs.Common.{◌≡◌, ℕ, ◌+◌, ◌-◌, ◌<◌, ◌≤◌, Bool, true, false, List, [], ◌∷◌, ◌++◌, length, take, drop, get_or, Some, refl, sym, ap, ◌∙◌, subst, arith, append_assoc, append-nil, length-append, length-drop}
 use Rattle.std.specs.Prelude.{Contains, count_by, slice_get, slice_range, sum_by}
 use Rattle.std.specs.List.{AllByRecursion}
 use Rattle.std.specs.Prelude.{IsPermutation}
-use Rattle.std.proofs.lemmas.List.{get_or-drop, length_push, take_more}
+use Rattle.std.proofs.lemmas.List.{get_or-drop, length_push}
 use Rattle.std.proofs.lemmas.List.Elements.{Contains-append_left, Contains-push}
 use Rattle.std.proofs.lemmas.List.Sorted.{Contains-permutation, IsPermutation-sym, length_permutation}
 use Rattle.std.proofs.lemmas.List.Sums.{count_by_more_no, count_by_more_yes, sum_by-append, sum_by-cons}
@@ -59,14 +59,17 @@ module _ (row : List code.WrittenComponent) (test : Method → Bool) where
         from = omega (arith, h.from);
         added = h.added ++ o ∷ [];
         new_is = is ∙ ap (λ l. l ++ o ∷ []) h.new_is ∙ append_assoc old h.added (o ∷ []);
-        each = each_append (IsInPiece row test p) h.added (o ∷ []) h.each (record {
-          segment_is = segment;
-          from = omega (arith, h.from, index);
-          to = omega (arith, below, index);
-          component = w;
-          at = ap (slice_get row) index ∙ at;
-          passes = holds;
-        }, tt);
+        each = each_append (IsInPiece row test p) h.added (o ∷ []) h.each (
+          record {
+            segment_is = segment;
+            from = omega (arith, h.from, index);
+            to = omega (arith, below, index);
+            component = w;
+            at = ap (slice_get row) index ∙ at;
+            passes = holds;
+          },
+          tt,
+        );
         size = length_push h.added o ∙ ap (λ n. n + 1) h.size ∙ sym (ap (λ n. count_by (λ (v : code.WrittenComponent). test v.method) (take n (drop p.from row))) next ∙ count_by_more_yes (λ (v : code.WrittenComponent). test v.method) (drop p.from row) place w there (ap (λ (v : code.WrittenComponent). test v.method) read ∙ holds));
       }
 

@@ -73,11 +73,11 @@ loop-number-preserved c = λ modules names expanded.
       | else-not-is_empty w ↦
           subst (λ (fs : List Finding). AddsBelow modules names mixed_methods (n + 1) old fs) (sym (ap (λ v. v.items) w.found-is))
           (none_more modules names mixed_methods n old found inv (λ t.
-              let (l, k) = counted_mixed key cs (length choices) (length interleaves) a b t in
-              elim w.else-not-is_empty.branch [
-                | else-not-is_empty-via-then-not-is_empty+else-not-is_empty-2 v ↦ grind (arith, v.if-not-is_empty-2.false, v.is_empty-then-not-is_empty.ensures, c.in_ok-interleaves.interleaves.ok, k)
-                | else-not-is_empty-via-else-not-is_empty v ↦ grind (arith, v.if-not-is_empty.false, c.is_empty.ensures, c.in_ok-choices.choices.ok, l)
-              ]))
+          let (l, k) = counted_mixed key cs (length choices) (length interleaves) a b t in
+          elim w.else-not-is_empty.branch [
+            | else-not-is_empty-via-then-not-is_empty+else-not-is_empty-2 v ↦ grind (arith, v.if-not-is_empty-2.false, v.is_empty-then-not-is_empty.ensures, c.in_ok-interleaves.interleaves.ok, k)
+            | else-not-is_empty-via-else-not-is_empty v ↦ grind (arith, v.if-not-is_empty.false, c.is_empty.ensures, c.in_ok-choices.choices.ok, l)
+          ]))
     ]
 
 pub returns : goal.returns

@@ -39,10 +39,10 @@ loop-index-preserved c =
             subst (λ ts. AddsUnmarked names is_defined ts old c.if-is_live-index.found.items) (sym (flat_map-append (λ (r : Text × Reach). within Everywhere r.1 r.0) done (references_at v))) both,
           )
       | else-is_live-index w ↦ (
-            done,
-            marked_step marks row i (some_component row (omega (arith, l))) false done done (marked_references marks row) m l w.if-is_live-index.false (sym (append-nil done)) is,
-            subst (λ (us : List UndefinedName). AddsUnmarked names is_defined (names_within Everywhere done) old us) (sym (ap (λ u. u.items) w.found-is)) adds,
-          )
+        done,
+        marked_step marks row i (some_component row (omega (arith, l))) false done done (marked_references marks row) m l w.if-is_live-index.false (sym (append-nil done)) is,
+        subst (λ (us : List UndefinedName). AddsUnmarked names is_defined (names_within Everywhere done) old us) (sym (ap (λ u. u.items) w.found-is)) adds,
+      )
     ]
 
 pub returns : goal.returns
