@@ -6,3 +6,4 @@ pub mod KnownSegments
 pub mod UndefinedNames
 pub mod Deduped
 pub mod CountedMethods
+pub mod LoopKeys

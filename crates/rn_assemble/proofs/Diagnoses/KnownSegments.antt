@@ -2,15 +2,17 @@
 use Rattle.std.proofs.Common.{◌≡◌, ℕ, ◌<◌, ◌≤◌, List, length, sym, subst, arith}
 use Rattle.std.specs.List.{AllByRecursion}
 use Rattle.rn_pattern.proofs.Ordered.InOrder.{contained_each, each_contained}
-use Rattle.rn_assemble.specs.Components.{Component, NamedModule}
+use Rattle.rn_assemble.specs.Components.{Component, NamedModule, set_components}
 use Rattle.rn_assemble.specs.declared.including.pieces.Piece.{Piece}
 use Rattle.rn_assemble.specs.declared.including.segments.FollowedInclude.{FollowedInclude}
 use Rattle.rn_assemble.specs.declared.including.segments.Segments.{Segments}
 use Rattle.rn_assemble.specs.declared.reading.key_rows.KeyRows.{KeyRows}
 use Rattle.rn_assemble.specs.declared.reading.key_rows.WrittenComponent as code
+use Rattle.rn_text.specs.Texts.{Text}
+use Rattle.rn_assemble.specs.inside.Checked.{AreExpanded}
 use Rattle.rn_assemble.specs.inside.Diagnosing.{AreInList, HasBrought}
 use Rattle.rn_assemble.specs.inside.Keyed.{key_at}
-use Rattle.rn_assemble.specs.inside.Pieces.{AreKnown, ArePieces, AreSomePieces, IsKnownRow, IsPiece, OfRow}
+use Rattle.rn_assemble.specs.inside.Pieces.{AreKnown, AreKnownBy, ArePieces, AreSomePieces, IsKnownRow, IsPiece, OfRow}
 use Rattle.rn_assemble.specs.inside.Rows.{row_at}
 use Rattle.rn_assemble.specs.inside.Segments.{AreSegmentsOf, IsBrought}
 use Rattle.rn_assemble.proofs.KeyFaults.KnownRows.{row_of}
@@ -19,6 +21,10 @@ use Rattle.rn_assemble.proofs.Referring.FoundReferences.{ranges}
 -- includes brought in segments that are there
 pub has_brought : (modules : List NamedModule) (x : Segments) (cs : List Component) → AreSegmentsOf modules x cs → HasBrought x
 has_brought modules x cs a = each_contained (λ (b : FollowedInclude). (b.from ≤ b.to) × (b.to ≤ length x.list.items)) x.brought.items (λ b c. let h = contained_each (IsBrought modules x.contents.now x.list.items) x.brought.items a.brought b c in (h.ordered, h.within))
+
+-- what is expanded is known
+pub known_by : (modules : List NamedModule) (names : List Text) (rows : KeyRows) (x : Segments) → AreExpanded modules names rows x → AreKnownBy names rows x
+known_by modules names rows x h = record { modules = modules; components = set_components modules; in_order = h.in_order; rows_are = h.rows_are; segments_are = h.segments_are }
 
 -- the row of a number is known
 pub known_row : (rows : KeyRows) (x : Segments) → AreKnown rows x → (n : ℕ) → n < length rows.rows.items → (row : List code.WrittenComponent) → row ≡ row_at rows.rows.items n → IsKnownRow row x

@@ -1,13 +1,11 @@
 -- Overrides of what isn't there, gathered include by include and key by key.
-use Rattle.std.proofs.Common.{◌≡◌, ℕ, zero, suc, ◌+◌, ◌<◌, ⊎_elim, inl, inr, false, true, List, [], ◌∷◌, ◌++◌, length, take, get_or, map, refl, sym, ap, ◌∙◌, subst, arith, append_assoc, append-nil}
-use Rattle.std.specs.Prelude.{Contains, IsPermutation}
-use Rattle.std.specs.List.{AllByRecursion}
+use Rattle.std.proofs.Common.{◌≡◌, ℕ, zero, suc, ◌+◌, ⊎_elim, inl, inr, List, [], ◌∷◌, ◌++◌, length, map, refl, sym, ap, ◌∙◌, subst, arith, append_assoc, append-nil}
+use Rattle.std.specs.Prelude.{Contains}
 use Rattle.std.proofs.lemmas.Bool.{cases_lt}
-use Rattle.std.proofs.lemmas.List.{take_more}
 use Rattle.std.proofs.lemmas.List.Elements.{Contains-append_cases, Contains-append_left, Contains-append_right, Contains-push, Contains-push_cases}
 use Rattle.rn_text.specs.Texts.{Text}
 use Rattle.rn_pattern.proofs.Ordered.InOrder.{each_contained}
-use Rattle.rn_assemble.specs.Components.{Key, NamedModule}
+use Rattle.rn_assemble.specs.Components.{NamedModule}
 use Rattle.rn_assemble.specs.Diagnosed.{IsTrueFor, finding_refusal, key_numbered}
 use Rattle.rn_assemble.specs.Refusal.{Refusal, override, rank}
 use Rattle.rn_assemble.specs.declared.diagnosing.findings.Finding.{Finding}
@@ -15,7 +13,6 @@ use Rattle.rn_assemble.specs.declared.diagnosing.findings.Lack.{Lack}
 use Rattle.rn_assemble.specs.declared.including.segments.FollowedInclude.{FollowedInclude}
 use Rattle.rn_assemble.specs.declared.including.segments.Segments.{Segments}
 use Rattle.rn_assemble.specs.declared.reading.key_rows.KeyRows.{KeyRows}
-use Rattle.rn_assemble.specs.inside.Bringing.{IsLackIn}
 use Rattle.rn_assemble.specs.inside.Checked.{AreExpanded}
 use Rattle.rn_assemble.specs.inside.ContentsOf.{name_at}
 use Rattle.rn_assemble.specs.inside.Diagnosing.{AddsLack, AddsLacks, AddsRank, AreLacks, IsLackBy, KeepsLacks, lack_finding}

@@ -100,8 +100,8 @@ fn diagnose_modules<'s>(
     requires flat { AllByRecursion (λ (m : specs.NamedModule). AreFlat m.tree.items)
         (modules_view modules.items) }
     ensures err { IfErr result (IsFirstOfModules (modules_view modules.entry.items)) }
-    ensures findings { IfOk result (λ d. AreFindings (modules_view modules.entry.items) (key_names d)
-        d.findings.items) }
+    ensures findings { IfOk result (λ d. AreFindings (modules_view modules.entry.items)
+        (key_names d) d.findings.items) }
 {
     let roots = included_roots(alloc, modules.as_slice())?;
     let keys = Keys::new(alloc, modules.as_slice(), seed)?;

@@ -74,7 +74,8 @@ pub(crate) fn findings<'s>(
     segments: &Segments<'_, '_, '_>,
 ) -> Result<Vec<Finding<'s>>, AllocError>
     requires { AreKnownBy (names_of keys.now) rows.now segments.now }
-    ensures { (modules : List NamedModule) → AreExpanded modules (names_of keys.now) rows.now segments.now
+    ensures { (modules : List NamedModule)
+        → AreExpanded modules (names_of keys.now) rows.now segments.now
         → IfOk result (λ found. AreFindings modules ([] ∷ names_of keys.now) found.items) }
 {
     let mut found = Vec::new(alloc);
@@ -118,8 +119,10 @@ fn push_undefined_names<'s>(
     found: &mut Vec<Finding<'s>>,
 ) -> Result<(), AllocError>
     requires { AreKnownBy (names_of keys.now) rows.now segments.now }
-    ensures { (modules : List NamedModule) → AreExpanded modules (names_of keys.now) rows.now segments.now
-        → IfOk result (λ _. AddsRank modules (names_of keys.now) 9 found.old.items found.new.items) }
+    ensures { (modules : List NamedModule)
+        → AreExpanded modules (names_of keys.now) rows.now segments.now
+        → IfOk result (λ _. AddsRank modules (names_of keys.now) 9
+        found.old.items found.new.items) }
 {
     let names = undefined_names(alloc, keys, rows, segments)?;
     for undefined in &names {

@@ -1,4 +1,6 @@
 // Where a loop of definitions is that refer to each other outside elements (RELAX NG 2001, 4.19).
+ghost use Rattle.std.specs.Prelude.{length};
+ghost use Rattle.rn_pattern.specs.Graph.{AllBelow};
 ghost use Rattle.rn_assemble.specs.inside.Pieces.{AreKnownBy, IsKnownRow};
 ghost use Rattle.rn_assemble.specs.inside.Views.{names_of};
 
@@ -42,7 +44,8 @@ fn places_along(
     segments: &Segments<'_, '_, '_>,
     passed: &[usize],
 ) -> Result<Vec<ComponentPlace>, AllocError>
-    requires { AreKnownBy (names_of keys.now) rows.now segments.now }
+    requires known { AreKnownBy (names_of keys.now) rows.now segments.now }
+    requires within { AllBelow (length rows.now.rows.items) passed.now }
 {
     let mut places = Vec::new(alloc);
     for at in 0..passed.len() {
@@ -52,11 +55,9 @@ fn places_along(
             passed[0]
         };
         let name = keys.name(KeyId(next));
-        if passed[at] < rows.len() {
-            let row = rows.row(KeyId(passed[at]));
-            if let Some(component) = first_referring(alloc, row, segments, name)? {
-                places.push(component)?;
-            }
+        let row = rows.row(KeyId(passed[at]));
+        if let Some(component) = first_referring(alloc, row, segments, name)? {
+            places.push(component)?;
         }
     }
     Ok(places)

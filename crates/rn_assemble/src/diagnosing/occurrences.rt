@@ -3,7 +3,7 @@ ghost use Rattle.std.specs.Prelude.{◌≡◌, ◌≤◌, IfOk, length};
 ghost use Rattle.rn_assemble.specs.inside.Diagnosing.{AddsOccurrences, AreFirstTwo, AreInList, HasBrought, KeepsTwo, meets};
 ghost use Rattle.rn_assemble.specs.inside.Pieces.{AreSomePieces};
 
-use super::places::{ComponentPlace, IncludePlace};
+use super::places::IncludePlace;
 use crate::including::pieces::Piece;
 use crate::including::segments::Segments;
 use crate::reading::key_rows::WrittenComponent;

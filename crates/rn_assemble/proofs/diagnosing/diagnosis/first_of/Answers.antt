@@ -1,5 +1,4 @@
-use Rattle.std.proofs.Common.{◌≡◌, ◌∙◌, length, sym, ap, subst}
-use Rattle.rn_assemble.specs.declared.including.pieces.Piece.{Piece}
+use Rattle.std.proofs.Common.{◌∙◌, length, sym, ap, subst}
 use Rattle.rn_assemble.specs.inside.Diagnosing.{AreInList}
 use Rattle.rn_assemble.specs.inside.Pieces.{AreSomePieces}
 use Rattle.rn_assemble.proofs.Diagnoses.KnownSegments.{has_brought, known_in_list, known_pieces}

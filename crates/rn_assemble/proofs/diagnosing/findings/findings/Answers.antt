@@ -1,5 +1,5 @@
 -- What was found of each kind in turn.
-use Rattle.std.proofs.Common.{◌≡◌, List, length, ap, ◌∙◌, subst}
+use Rattle.std.proofs.Common.{List, length, ap, ◌∙◌, subst}
 use Rattle.rn_assemble.specs.declared.diagnosing.findings.Finding.{Finding}
 use Rattle.rn_assemble.specs.inside.Diagnosing.{AddsRank}
 use Rattle.rn_assemble.specs.inside.Views.{names_of}

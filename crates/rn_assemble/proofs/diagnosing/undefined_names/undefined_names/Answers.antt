@@ -1,12 +1,12 @@
 -- The names of one key more, and then all in order.
-use Rattle.std.proofs.Common.{◌≡◌, ◌+◌, ◌≤◌, ◌<◌, List, suc, length, refl, sym, ap, ◌∙◌, subst, arith}
+use Rattle.std.proofs.Common.{◌≡◌, ◌≤◌, ◌<◌, List, suc, length, refl, sym, subst, arith}
 use Rattle.std.specs.List.{AllByRecursion}
 use Rattle.rn_pattern.specs.declared.adjacency.references.Reach.TheVariants.{Everywhere}
 use Rattle.rn_assemble.specs.declared.diagnosing.undefined_names.UndefinedName.{UndefinedName}
 use Rattle.rn_assemble.specs.declared.reading.keys.KeyId.{KeyId}
 use Rattle.rn_assemble.specs.inside.ReferenceOrder.{AreDefinedKeys}
 use Rattle.rn_assemble.specs.declared.including.pieces.Piece.{Piece}
-use Rattle.rn_assemble.specs.inside.Diagnosing.{AddsUnmarked, AreUndefined}
+use Rattle.rn_assemble.specs.inside.Diagnosing.{AddsUnmarked}
 use Rattle.rn_assemble.specs.inside.Keyed.{key_at}
 use Rattle.rn_assemble.specs.inside.Referred.{AreLiveMarks, AreMarksOf, marked_references, names_within}
 use Rattle.rn_assemble.specs.inside.Views.{key_numbers, names_of}
