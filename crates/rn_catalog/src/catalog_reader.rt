@@ -9,7 +9,7 @@ use rn_xml::{XmlDocument, XmlElement, read_document};
 use std::alloc::Global;
 
 /// What may be in an element.
-#[derive(Clone, Copy, Debug, PartialEq, Eq)]
+#[derive(Clone, Copy)]
 enum Room {
     /// Nothing that is looked at.
     Closed,

@@ -3,7 +3,7 @@
 use crate::catalog::EntryKind;
 
 /// What an element of the namespace of catalogs is.
-#[derive(Clone, Copy, Debug, PartialEq, Eq)]
+#[derive(Clone, Copy)]
 pub(crate) enum Form {
     /// `catalog` or `group`: entries are in it.
     Holder,
@@ -14,7 +14,7 @@ pub(crate) enum Form {
 }
 
 /// What an entry is made of.
-#[derive(Clone, Copy, Debug, PartialEq, Eq)]
+#[derive(Clone, Copy)]
 pub(crate) struct EntryForm {
     pub(crate) kind: EntryKind,
     /// The attribute for what it is for; `None` of a further catalog.

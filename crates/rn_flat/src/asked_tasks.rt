@@ -5,7 +5,7 @@ use clap::ArgMatches;
 use std::alloc::Global;
 
 /// What an option asks for that can't be given with another one of its kind.
-#[derive(Clone, Copy, Debug, PartialEq, Eq)]
+#[derive(Clone, Copy, PartialEq, Eq)]
 enum Wanted {
     Check,
     Lint,

@@ -11,7 +11,7 @@ use std::alloc::{AllocError, Global};
 use std::collections::BTreeSet;
 
 /// An unused definition, in the order in which they are told: by the names of the files' modules and by the texts.
-#[derive(Clone, Copy, Debug, PartialEq, Eq, PartialOrd, Ord)]
+#[derive(Clone, Copy, PartialEq, Eq, PartialOrd, Ord)]
 struct UnusedDefinition<'v> {
     module: &'v str,
     at: usize,

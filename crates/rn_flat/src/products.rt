@@ -66,7 +66,7 @@ fn next_on_loop(looped: &[usize], file: usize) -> Option<usize> {
 }
 
 /// What one file refers to.
-#[derive(Clone, Copy, Debug, PartialEq, Eq, PartialOrd, Ord)]
+#[derive(Clone, Copy, PartialEq, Eq, PartialOrd, Ord)]
 struct Edge {
     target: usize,
     is_external: bool,

@@ -22,17 +22,15 @@ pub const MAX_OPEN: usize = 256;
 /// The place of the first bracket that is one too many.
 fn bracket_too_deep(tokens: &[Token<'_>]) -> Option<usize> {
     let mut depth: usize = 0;
-    for (number, token) in tokens.iter().enumerate() {
-        match sign_at(tokens, number) {
-            Sign::LeftBrace | Sign::LeftParen | Sign::LeftBracket => {
+    for token in tokens {
+        match token.text.as_bytes() {
+            b"{" | b"(" | b"[" => {
                 if depth >= MAX_OPEN {
                     return Some(token.start);
                 }
                 depth += 1;
             }
-            Sign::RightBrace | Sign::RightParen | Sign::RightBracket => {
-                depth = depth.saturating_sub(1);
-            }
+            b"}" | b")" | b"]" => depth = depth.saturating_sub(1),
             _ => {}
         }
     }

@@ -23,6 +23,11 @@ by_heads p q k l xs ys ps qs c d ek el ex ey ep eq ec ed =
     ∙ (λ z. ordering_then (nat_cmp ((sym ek) z) ((sym el) z)) (ordering_then (names_cmp ((sym ec) z) ((sym ed) z)) (ordering_then (slice_cmp text_cmp ((sym ex) z) ((sym ey) z)) (ordering_then (parameters_cmp ((sym ep) z) ((sym eq) z)) members))))
     ∙ sym (then_four (nat_cmp k l) (names_cmp c d) (slice_cmp text_cmp xs ys) (parameters_cmp ps qs) members)
 
+pub kinds_tied : (x y : Heads) → Equal ≡ heads_cmp x y → x.kind ≡ y.kind
+kinds_tied x y h =
+    let behind = ordering_then (names_cmp (part_class x) (part_class y)) (ordering_then (slice_cmp text_cmp (part_texts x) (part_texts y)) (parameters_cmp (part_parameters x) (part_parameters y))) in
+    ranked x.kind y.kind Equal (sym (then_first (nat_cmp x.kind y.kind) behind (sym h)))
+
 module _ (p q : Tree) (x y : Heads) (a : ShowsHeads p x) (b : ShowsHeads q y) (r : Ordering) (e : r ≡ heads_cmp x y) where
   heads_first : tree_cmp p q ≡ ordering_then r (trees_cmp (members_in p) (members_in q))
   heads_first =
@@ -36,6 +41,4 @@ module _ (p q : Tree) (x y : Heads) (a : ShowsHeads p x) (b : ShowsHeads q y) (r
   heads_tied h = heads_first ∙ then_tied r (trees_cmp (members_in p) (members_in q)) h
 
   pub same_kind : r ≡ Equal → rank p ≡ rank q
-  same_kind h =
-      let behind = ordering_then (names_cmp (part_class x) (part_class y)) (ordering_then (slice_cmp text_cmp (part_texts x) (part_texts y)) (parameters_cmp (part_parameters x) (part_parameters y))) in
-      sym a.kinds ∙ ranked x.kind y.kind Equal (sym (then_first (nat_cmp x.kind y.kind) behind (sym e ∙ h))) ∙ b.kinds
+  same_kind h = sym a.kinds ∙ kinds_tied x y (sym h ∙ e) ∙ b.kinds
