@@ -22,3 +22,4 @@ pub mod ScopeMeans
 pub mod RowReads
 pub mod TableGrowth
 pub mod WholeDocuments
+pub mod OneReading

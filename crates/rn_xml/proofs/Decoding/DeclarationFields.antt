@@ -141,7 +141,7 @@ no_white text rest t r run same = ⊎_elim (λ w. absurd (longer w)) (λ n. n) (
     longer w = omega (arith, some (chars text) w, ap length split, length-append (encode_utf8_all front) rest, length-le-encodes front, same)
 
 -- a list is cut at the first of a kind in one way
-cut_once : (q : ℕ) (u r v s : List ℕ) → list_all (λ c. not (c == q)) u ≡ true → list_all (λ c. not (c == q)) v ≡ true → u ++ q ∷ r ≡ v ++ q ∷ s → (u ≡ v) × (r ≡ s)
+pub cut_once : (q : ℕ) (u r v s : List ℕ) → list_all (λ c. not (c == q)) u ≡ true → list_all (λ c. not (c == q)) v ≡ true → u ++ q ∷ r ≡ v ++ q ∷ s → (u ≡ v) × (r ≡ s)
 cut_once q [] r [] s a b e = (refl, cc)
 cut_once q [] r (d ∷ v) s a b e = let h : d ≡ q = cc in absurd (not_it d h (and_parts _ _ b).0)
   where
