@@ -23,3 +23,4 @@ pub mod RowReads
 pub mod TableGrowth
 pub mod WholeDocuments
 pub mod OneReading
+pub mod Refusals

@@ -5,3 +5,5 @@ pub mod Values
 pub mod UpToOneEnd
 pub mod Markup
 pub mod Contents
+pub mod Names
+pub mod Tags

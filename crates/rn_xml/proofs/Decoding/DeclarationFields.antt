@@ -30,11 +30,11 @@ all_tail : (p : ℕ → Bool) (c : ℕ) (cs : List ℕ) → list_all p (c ∷ cs
 all_tail p c cs h = (and_parts _ _ h).1
 
 -- white space ends where something else follows it
-white_run : (xs r : List ℕ) (c : ℕ) → is_white c ≡ false → MaySpace xs (c ∷ r) → after_run is_white xs ≡ c ∷ r
+pub white_run : (xs r : List ℕ) (c : ℕ) → is_white c ≡ false → MaySpace xs (c ∷ r) → after_run is_white xs ≡ c ∷ r
 white_run xs r c n x.MaySpace.none = after_run_stops is_white c r n
 white_run (e ∷ xs) r c n (x.MaySpace.white w m) = after_run_passes is_white e xs w ∙ white_run xs r c n m
 
-white_all : (xs : List ℕ) → MaySpace xs [] → after_run is_white xs ≡ []
+pub white_all : (xs : List ℕ) → MaySpace xs [] → after_run is_white xs ≡ []
 white_all [] x.MaySpace.none = refl
 white_all (e ∷ xs) (x.MaySpace.white w m) = after_run_passes is_white e xs w ∙ white_all xs m
 
