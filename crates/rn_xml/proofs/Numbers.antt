@@ -113,7 +113,7 @@ entity_reference name text behind rest c e f n = subst (λ l. IsReference (38 �
 pub entity_of : (name text : List ℕ) (c : ℕ) → list_all is_ascii name ≡ true → text ≡ name → IsEntity name c → IsEntity (chars text) c
 entity_of name text c ascii e n = subst (λ l. IsEntity l c) (sym (ap chars e ∙ ascii_chars name ascii)) n
 
-named_by : (name text : List ℕ) → IsUtf8 text → list_all is_ascii name ≡ true → chars text ≡ name → text ≡ name
+pub named_by : (name text : List ℕ) → IsUtf8 text → list_all is_ascii name ≡ true → chars text ≡ name → text ≡ name
 named_by name text t ascii e = sym (encodes-chars text t) ∙ ap encode_utf8_all (e ∙ sym (ascii_chars name ascii)) ∙ encodes-chars name (IsUtf8-from_ascii name (ascii_bytes name ascii))
 
 pub no_entity : (text : List ℕ) → IsUtf8 text → text ≢ codes "amp" → text ≢ codes "lt" → text ≢ codes "gt" → text ≢ codes "apos" → text ≢ codes "quot" → (c : ℕ) → ¬ IsEntity (chars text) c

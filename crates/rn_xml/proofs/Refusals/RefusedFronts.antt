@@ -14,6 +14,10 @@ pub if_each_err : {A E : Type 0} (r : Result A E) (P : E → Type 0) → ((e : E
 if_each_err (Ok a) P p = tt
 if_each_err (Err e) P p = p e
 
+pub if_err_too : {A E : Type 0} (r : Result A E) {P Q : E → Type 0} → IfErr r P → ((e : E) → P e → Q e) → IfErr r Q
+if_err_too (Ok a) p f = tt
+if_err_too (Err e) p f = f e p
+
 pub feed_first : (p : ℕ → Bool) (cs : List ℕ) → begins_with (λ d. d == 10) cs ≡ true → begins_with p (lines_of cs) ≡ p 10
 feed_first p [] b = absurd (false≢true b)
 feed_first p (d ∷ ds) b = ap (λ a. begins_with p (lines_of (a ∷ ds))) (eqb-true d 10 b)

@@ -15,7 +15,7 @@ use Rattle.rn_xml.specs.XmlTags as t
 use Rattle.rn_xml.specs.inside.Fronts.{BeginsName, ends_name}
 use Rattle.rn_xml.proofs.QNames.{ncname_inner}
 use Rattle.rn_xml.proofs.Sources.{front_there, inner_front, inner_itself}
-use Rattle.rn_xml.proofs.OneReading.Names.{name_ends, both_end, plain_once}
+use Rattle.rn_xml.proofs.Refusals.OneReading.Names.{name_ends, both_end, plain_once}
 use Rattle.rn_xml.proofs.Refusals.RefusedFronts.{lines_begin}
 
 pub ncname_run : (name behind : List ℕ) → is_ncname name ≡ true → is_ncname (run_of is_name_char (name ++ behind)) ≡ true
@@ -77,11 +77,11 @@ two_colons cs first after word rest written prefix local behind n whole m split 
 
 -- ---- where a name that is read ends
 
-no_feed : is_name_char 10 ≡ false
+pub no_feed : is_name_char 10 ≡ false
 unfolding is_name_char is_name_start
 no_feed = refl
 
-stops_at : (cs rest : List ℕ) → rest ≡ after_run is_name_char cs → begins_with is_name_char rest ≡ false
+pub stops_at : (cs rest : List ℕ) → rest ≡ after_run is_name_char cs → begins_with is_name_char rest ≡ false
 stops_at cs [] e = refl
 stops_at cs (d ∷ ds) e = stop_fails is_name_char cs d ds (sym e)
 

@@ -19,8 +19,8 @@ use Rattle.rn_xml.specs.XmlCharacters as x
 use Rattle.rn_xml.specs.inside.Pieces.{IsNumber, is_inner}
 use Rattle.rn_xml.proofs.Numbers.{HasDigits, most, all_pass_too, entity_inner, digit_inner, hexdigit_inner}
 use Rattle.rn_text.proofs.Words.AppendedLists.{all_append}
-use Rattle.rn_xml.proofs.OneReading.Markup.{run_of_name}
-use Rattle.rn_xml.proofs.OneReading.References.{body_of}
+use Rattle.rn_xml.proofs.Refusals.OneReading.Markup.{run_of_name}
+use Rattle.rn_xml.proofs.Refusals.OneReading.References.{body_of}
 use Rattle.rn_xml.proofs.Sources.{front_there}
 
 -- ---- numbers

@@ -11,8 +11,8 @@ use Rattle.rn_xml.specs.XmlCharacters.{lines_of, IsReference, IsValue, is_value_
 use Rattle.rn_xml.specs.XmlCharacters as x
 use Rattle.rn_xml.specs.inside.Fronts.{LeavesValue}
 use Rattle.rn_xml.specs.inside.Pieces.{normal}
-use Rattle.rn_xml.proofs.OneReading.References.{body_of, reference_once}
-use Rattle.rn_xml.proofs.OneReading.Values.{step_is, step_of, value_step}
+use Rattle.rn_xml.proofs.Refusals.OneReading.References.{body_of, reference_once}
+use Rattle.rn_xml.proofs.Refusals.OneReading.Values.{reference_step, step_is, step_of, value_step}
 use Rattle.rn_xml.proofs.Sources.{lines_step, normal_cases}
 
 no_cons : (c : ℕ) (cs : List ℕ) → [] ≢ c ∷ cs
@@ -29,12 +29,6 @@ leaves_itself quote cs value after h = (value, h)
 
 pub leaves_more : (quote : ℕ) (cs rest behind : List ℕ) → LeavesValue quote cs rest → LeavesValue quote rest behind → LeavesValue quote cs behind
 leaves_more quote cs rest behind far step value after h = let first = far value after h in step first.0 after first.1
-
-reference_step : (quote : ℕ) (cs : List ℕ) (c : ℕ) (mid : List ℕ) → is_delimiter quote ≡ true → IsReference cs c mid → value_step quote cs ≡ 1
-reference_step quote cs c mid d r = let b = body_of cs c mid r in ap (value_step quote) b.is ∙ ap (λ t. if t then 0 else 1) (other quote d)
-  where
-    other : (q : ℕ) → is_delimiter q ≡ true → (38 == q) ≡ false
-    other q d = grind (arith, nat_tests)
 
 -- behind a reference
 pub leaves_reference : (quote : ℕ) (cs : List ℕ) (c : ℕ) (mid : List ℕ) → is_delimiter quote ≡ true → IsReference cs c mid → LeavesValue quote cs mid

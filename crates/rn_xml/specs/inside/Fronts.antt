@@ -37,6 +37,20 @@ IsRootOrEnd cs = (cs ≡ []) ⊎ (opens_tag cs ≡ true)
 abbrev pub ReachNoTag : List ℕ → Type 0
 ReachNoTag cs = (text rest : List ℕ) → IsCharacters cs text rest → ¬ (opens_tag rest ≡ true)
 
+-- the end of a tag: `>` or `/>`
+abbrev pub closes_tag : List ℕ → Bool
+closes_tag [] = false
+closes_tag (c ∷ cs) = c == 62 || (c == 47 && begins_with (λ d. d == 62) cs)
+
+-- what ends the attributes of a tag
+abbrev pub is_tag_end : ℕ → Bool
+is_tag_end c = c == 62 || c == 47
+
+-- neither an attribute nor white space follows
+abbrev pub ends_attributes : List ℕ → Bool
+ends_attributes [] = true
+ends_attributes (c ∷ cs) = is_tag_end c
+
 -- no name goes on
 abbrev pub ends_name : List ℕ → Bool
 ends_name cs = not (begins_with (λ c. is_name_char c || c == 58) cs)

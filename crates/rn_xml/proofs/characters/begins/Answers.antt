@@ -1,6 +1,3 @@
-use Rattle.rn_xml.proofs.OneReading.FirstCharacters.{name_opens_tag}
-use Rattle.rn_xml.proofs.OneReading.Tags.{end_tag_once}
-use Rattle.rn_xml.proofs.OneReading.Contents.{misc_leads_on}
 use Rattle.std.proofs.Common.{◌∙◌}
 use Rattle.std.specs.Str.{chars}
 use Rattle.rn_xml.proofs.Lengths.{begins_if_some}

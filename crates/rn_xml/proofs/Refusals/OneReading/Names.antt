@@ -15,7 +15,8 @@ use Rattle.rn_xml.specs.XmlTags.{IsEq, IsQName}
 use Rattle.rn_xml.specs.XmlTags as t
 use Rattle.rn_xml.specs.inside.Fronts.{ends_name}
 use Rattle.rn_xml.proofs.Decoding.DeclarationFields.{white_run, some_white}
-use Rattle.rn_xml.proofs.OneReading.Markup.{run_of_name, no_white}
+use Rattle.rn_xml.proofs.Refusals.OneReading.Markup.{run_of_name}
+use Rattle.rn_xml.proofs.Decoding.NamedEncodings.{white_stops}
 
 -- ---- where a name ends
 
@@ -33,7 +34,7 @@ both_end [] n m = refl
 both_end (c ∷ cs) n m = ap (λ b. not (b || c == 58)) n ∙ ap (λ b. not (false || b)) m
 
 pub white_ends : (c : ℕ) (cs : List ℕ) → is_white c ≡ true → ends_name (c ∷ cs) ≡ true
-white_ends c cs w = both_end (c ∷ cs) (no_white c w) (colon c w)
+white_ends c cs w = both_end (c ∷ cs) (white_stops c w) (colon c w)
   where
     colon : (c : ℕ) → is_white c ≡ true → (c == 58) ≡ false
     colon c w = grind (arith, nat_tests)

@@ -4,9 +4,9 @@ use Rattle.std.specs.Prelude.{◌⊎◌}
 use Rattle.rn_text.specs.Texts.{is_white}
 use Rattle.rn_xml.specs.XmlCharacters.{IsReference, IsSection, IsComment, IsInstruction, IsCharacters, AreMisc, is_data_char}
 use Rattle.rn_xml.specs.XmlCharacters as x
-use Rattle.rn_xml.proofs.OneReading.FirstCharacters.{kind_of, reference_kind, section_kind, comment_kind, instruction_kind, data_kind, white_kind}
-use Rattle.rn_xml.proofs.OneReading.References.{reference_once}
-use Rattle.rn_xml.proofs.OneReading.Markup.{comment_once, section_once, instruction_once}
+use Rattle.rn_xml.proofs.Refusals.OneReading.FirstCharacters.{kind_of, reference_kind, section_kind, comment_kind, instruction_kind, data_kind, white_kind}
+use Rattle.rn_xml.proofs.Refusals.OneReading.References.{reference_once}
+use Rattle.rn_xml.proofs.Refusals.OneReading.Markup.{comment_once, section_once, instruction_once}
 
 -- ---- characters between tags
 

@@ -8,7 +8,8 @@ use Rattle.rn_text.specs.Texts.{is_white}
 use Rattle.rn_text.proofs.Words.EqualLists.{cons_rest}
 use Rattle.rn_xml.specs.XmlCharacters.{IsReference, IsValue, IsAttValue, is_value_char}
 use Rattle.rn_xml.specs.XmlCharacters as x
-use Rattle.rn_xml.proofs.OneReading.References.{body_of, reference_once}
+use Rattle.rn_xml.proofs.Refusals.OneReading.FirstCharacters.{white_no_ampersand}
+use Rattle.rn_xml.proofs.Refusals.OneReading.References.{body_of, reference_once}
 
 -- ---- by the first character: 0 the quote, 1 a reference, 2 white space, 3 another
 
@@ -22,23 +23,23 @@ step_of (x.IsValue.reference r h) = 1
 step_of (x.IsValue.white w h) = 2
 step_of (x.IsValue.itself v h) = 3
 
+pub reference_step : (quote : ℕ) (cs : List ℕ) (c : ℕ) (mid : List ℕ) → is_delimiter quote ≡ true → IsReference cs c mid → value_step quote cs ≡ 1
+reference_step quote cs c mid d r = let b = body_of cs c mid r in ap (value_step quote) b.is ∙ ap (λ t. if t then 0 else 1) (other quote d)
+  where
+    other : (q : ℕ) → is_delimiter q ≡ true → (38 == q) ≡ false
+    other q d = grind (arith, nat_tests)
+
 pub step_is : (quote : ℕ) (cs value rest : List ℕ) → is_delimiter quote ≡ true → (h : IsValue quote cs value rest) → value_step quote cs ≡ step_of h
 step_is quote cs value rest d x.IsValue.close = ap (λ b. if b then 0 else (if quote == 38 then 1 else (if is_white quote then 2 else 3))) (same quote)
   where
     same : (q : ℕ) → (q == q) ≡ true
     same q = grind (arith, nat_tests)
-step_is quote cs value rest d (x.IsValue.reference {c = c} {mid = mid} r h) = let b = body_of cs c mid r in ap (value_step quote) b.is ∙ ap (λ t. if t then 0 else 1) (other quote d)
-  where
-    other : (q : ℕ) → is_delimiter q ≡ true → (38 == q) ≡ false
-    other q d = grind (arith, nat_tests)
+step_is quote cs value rest d (x.IsValue.reference {c = c} {mid = mid} r h) = reference_step quote cs c mid d r
 step_is quote cs value rest d (x.IsValue.white {c = c} w h) =
-    ap (λ b. if b then 0 else (if c == 38 then 1 else (if is_white c then 2 else 3))) (quotes c quote d w) ∙ ap (λ b. if b then 1 else (if is_white c then 2 else 3)) (amp c w) ∙ ap (λ b. if b then 2 else 3) w
+    ap (λ b. if b then 0 else (if c == 38 then 1 else (if is_white c then 2 else 3))) (quotes c quote d w) ∙ ap (λ b. if b then 1 else (if is_white c then 2 else 3)) (white_no_ampersand c w) ∙ ap (λ b. if b then 2 else 3) w
   where
     quotes : (c q : ℕ) → is_delimiter q ≡ true → is_white c ≡ true → (c == q) ≡ false
     quotes c q d w = grind (arith, nat_tests)
-
-    amp : (c : ℕ) → is_white c ≡ true → (c == 38) ≡ false
-    amp c w = grind (arith, nat_tests)
 step_is quote cs value rest d (x.IsValue.itself {c = c} v h) =
     let plain = (and_parts _ _ v).1 in
     ap (λ b. if b then 0 else (if c == 38 then 1 else (if is_white c then 2 else 3))) (quotes c quote plain) ∙ ap (λ b. if b then 1 else (if is_white c then 2 else 3)) (amp c quote plain) ∙ ap (λ b. if b then 2 else 3) (white c quote plain)

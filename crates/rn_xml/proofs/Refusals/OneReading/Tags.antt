@@ -14,10 +14,10 @@ use Rattle.rn_xml.specs.XmlCharacters.{MaySpace, IsSpace, IsAttValue}
 use Rattle.rn_xml.specs.XmlCharacters as x
 use Rattle.rn_xml.specs.XmlTags.{IsEq, IsQName, IsAttribute, AreAttributes, WrittenAttribute, Scope, IsTagFront, IsEndTag, bindings}
 use Rattle.rn_xml.specs.XmlTags as t
-use Rattle.rn_xml.specs.inside.Fronts.{ends_name}
+use Rattle.rn_xml.specs.inside.Fronts.{ends_name, is_tag_end}
 use Rattle.rn_xml.proofs.Decoding.DeclarationFields.{white_run, white_all, some_white}
-use Rattle.rn_xml.proofs.OneReading.Names.{qname_once, equals_ends, space_ends, some_space_ends, end_ends, some_space_once, equals_once}
-use Rattle.rn_xml.proofs.OneReading.Values.{att_value_once}
+use Rattle.rn_xml.proofs.Refusals.OneReading.Names.{qname_once, equals_ends, space_ends, some_space_ends, end_ends, some_space_once, equals_once}
+use Rattle.rn_xml.proofs.Refusals.OneReading.Values.{att_value_once}
 
 -- ---- attributes
 
@@ -74,9 +74,6 @@ attribute_begins cs a rest (t.IsAttribute.attribute {name = n} {prefix = p} {loc
 pub start_black : (c : ℕ) → is_name_start c ≡ true → is_white c ≡ false
 unfolding is_name_start
 start_black c n = grind (arith, nat_tests)
-
-abbrev pub is_tag_end : ℕ → Bool
-is_tag_end c = c == 62 || c == 47
 
 pub end_black : (c : ℕ) → is_tag_end c ≡ true → is_white c ≡ false
 end_black c e = grind (arith, nat_tests)
@@ -139,7 +136,7 @@ pub front_ends : (around : Scope) (cs qname : List ℕ) (name : Name) (bound : L
     → ends_name front.behind_name ≡ true
 front_ends around cs qname name bound attributes e rest front is = attributes_end front.behind_name front.behind_attributes rest front.written e front.are_attributes front.space is
 
-end_stops : (e : ℕ) (rest : List ℕ) → is_tag_end e ≡ true → begins_with is_name_start (e ∷ rest) ≡ false
+pub end_stops : (e : ℕ) (rest : List ℕ) → is_tag_end e ≡ true → begins_with is_name_start (e ∷ rest) ≡ false
 unfolding is_name_start
 end_stops e rest is = grind (arith, nat_tests)
 

@@ -13,7 +13,8 @@ use Rattle.rn_text.proofs.Words.EqualLists.{cons_first, cons_rest}
 use Rattle.rn_xml.specs.XmlCharacters.{IsComment, IsTarget, IsInstruction, IsSection}
 use Rattle.rn_xml.specs.XmlCharacters as x
 use Rattle.rn_xml.specs.inside.Pieces.{IsUpTo, here, further}
-use Rattle.rn_xml.proofs.OneReading.UpToOneEnd.{up_to_once, up_to_first, first_dashes, first_mark, first_brackets}
+use Rattle.rn_xml.proofs.Decoding.NamedEncodings.{white_stops}
+use Rattle.rn_xml.proofs.Refusals.OneReading.UpToOneEnd.{up_to_once, up_to_first, first_dashes, first_mark, first_brackets}
 
 -- ---- comments
 
@@ -67,10 +68,6 @@ no_mark : is_name_char 63 ≡ false
 unfolding is_name_char is_name_start
 no_mark = refl
 
-pub no_white : (c : ℕ) → is_white c ≡ true → is_name_char c ≡ false
-unfolding is_name_char is_name_start
-no_white c w = grind (arith, nat_tests)
-
 -- ---- processing instructions
 
 pub record InstructionParts (cs rest : List ℕ) : Type 0 where
@@ -92,7 +89,7 @@ instruction_parts cs rest (x.IsInstruction.full name c inside {rest = r} target 
   tail = c ∷ (inside ++ (codes "?>" ++ r));
   is = refl;
   is_target = target;
-  stops = no_white c white;
+  stops = white_stops c white;
   goes_on = inr (c ∷ inside, white, further (legal_white c white) (λ behind e. other c white (cons_first e)) (up_to_first (codes "?>") inside r legal (first_mark inside lacks)));
 }
   where

@@ -42,7 +42,7 @@ pub instruction_kind : (cs rest : List ℕ) → IsInstruction cs rest → kind_o
 instruction_kind cs rest (x.IsInstruction.bare name is) = refl
 instruction_kind cs rest (x.IsInstruction.full name c inside is white legal lacks) = refl
 
-other_kind : (c : ℕ) (cs : List ℕ) → (c == 38) ≡ false → (c == 60) ≡ false → kind_of (c ∷ cs) ≡ 0
+pub other_kind : (c : ℕ) (cs : List ℕ) → (c == 38) ≡ false → (c == 60) ≡ false → kind_of (c ∷ cs) ≡ 0
 other_kind c cs amp less = ap (λ b. cond b 1 (cond (c == 60) (kind_of_markup cs) 0)) amp ∙ ap (λ b. cond b (kind_of_markup cs) 0) less
 
 pub data_kind : (c : ℕ) (cs : List ℕ) → is_data_char c ≡ true → kind_of (c ∷ cs) ≡ 0
@@ -54,12 +54,12 @@ data_kind c cs d = other_kind c cs (amp c (and_parts _ _ d).1) (less c (and_part
     less : (c : ℕ) → not (c == 60 || c == 38) ≡ true → (c == 60) ≡ false
     less c e = grind (arith, nat_tests)
 
-pub white_kind : (c : ℕ) (cs : List ℕ) → is_white c ≡ true → kind_of (c ∷ cs) ≡ 0
-white_kind c cs w = other_kind c cs (amp c w) (less c w)
-  where
-    amp : (c : ℕ) → is_white c ≡ true → (c == 38) ≡ false
-    amp c e = grind (arith, nat_tests)
+pub white_no_ampersand : (c : ℕ) → is_white c ≡ true → (c == 38) ≡ false
+white_no_ampersand c e = grind (arith, nat_tests)
 
+pub white_kind : (c : ℕ) (cs : List ℕ) → is_white c ≡ true → kind_of (c ∷ cs) ≡ 0
+white_kind c cs w = other_kind c cs (white_no_ampersand c w) (less c w)
+  where
     less : (c : ℕ) → is_white c ≡ true → (c == 60) ≡ false
     less c e = grind (arith, nat_tests)
 
