@@ -1,6 +1,6 @@
 -- Characters between tags, piece by piece.
 use Rattle.std.proofs.Common.{◌≡◌, ◌≢◌, ℕ, true, false, List, [], ◌∷◌, ◌++◌, inl, inr, refl, sym, ap, ◌∙◌, subst, arith, append_assoc, append-nil, Bor, Some, None}
-use Rattle.std.specs.Prelude.{◌==◌, ◌||◌, not, codes, Option, is_some, MatchOption, IfSome, Result, Ok, Err, IfOk}
+use Rattle.std.specs.Prelude.{◌==◌, ◌||◌, not, codes, Option, is_some, MatchOption, Result, Ok, Err, IfOk}
 use Rattle.std.specs.Str.{chars}
 use Rattle.std.proofs.lemmas.Str.{chars-nil}
 use Rattle.std.proofs.lemmas.Bool.{and_from, false≢true}

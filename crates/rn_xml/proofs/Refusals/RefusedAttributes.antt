@@ -1,10 +1,10 @@
 -- Attributes and ends of tags that are none.
-use Rattle.std.proofs.Common.{◌≡◌, ◌≢◌, ◌<◌, ◌≤◌, ℕ, Bool, true, false, List, [], ◌∷◌, ◌++◌, length, get_or, refl, sym, ap, ◌∙◌, subst, arith, inl, inr, ⊎_elim, append_assoc, append-nil, length-append, Some, None}
-use Rattle.std.specs.Prelude.{◌==◌, ◌||◌, ◌&&◌, ◌⊎◌, not, codes, All, Option, slice_get, encode_utf8_all}
+use Rattle.std.proofs.Common.{◌≡◌, ◌≢◌, ◌<◌, ℕ, true, false, List, [], ◌∷◌, ◌++◌, length, get_or, refl, sym, ap, ◌∙◌, subst, arith, inl, inr, ⊎_elim, append_assoc, length-append, Some, None}
+use Rattle.std.specs.Prelude.{◌==◌, ◌&&◌, ◌⊎◌, codes, All, Option, encode_utf8_all}
 use Rattle.std.specs.Str.{chars}
-use Rattle.std.proofs.lemmas.Bool.{and_parts, or_cases, both_ways, true≢false, false≢true, eqb-true, false_from_ne_true, cases_Bool}
+use Rattle.std.proofs.lemmas.Bool.{and_parts, or_cases, true≢false, false≢true, eqb-true, false_from_ne_true}
 use Rattle.std.proofs.lemmas.Bool.Decides.{nat_tests}
-use Rattle.std.proofs.lemmas.List.{append_cancel_left, get_or_append_left}
+use Rattle.std.proofs.lemmas.List.{get_or_append_left}
 use Rattle.std.proofs.lemmas.Option.{get_or_from_slice_get, slice_get_within}
 use Rattle.rn_text.specs.Segments.{begins_with, after_run, is_delimiter}
 use Rattle.rn_text.specs.Texts.{Text, is_white}
@@ -20,13 +20,13 @@ use Rattle.rn_xml.specs.inside.Fronts.{BeginsName, ends_name, closes_tag, is_tag
 use Rattle.rn_xml.specs.inside.Pieces.{SplitsName}
 use Rattle.rn_xml.specs.inside.TagTables.{AreUpToEnd, CannotAdd, IsBoundIn}
 use Rattle.rn_xml.specs.inside.WrittenAttributes.{DeclaresAs}
-use Rattle.rn_xml.proofs.Decoding.DeclarationFields.{space_there, white_run, white_all, white_there, some_white}
+use Rattle.rn_xml.proofs.Decoding.DeclarationFields.{space_there, white_run, white_all, some_white}
 use Rattle.rn_xml.proofs.Refusals.OneReading.Names.{qname_once, equals_ends, equals_once}
-use Rattle.rn_xml.proofs.Refusals.OneReading.Tags.{value_opens, quote_black, end_black, attribute_begins, start_black, start_other, attributes_lead, LeadsOn}
+use Rattle.rn_xml.proofs.Refusals.OneReading.Tags.{value_opens, quote_black, end_black, attribute_begins, start_black, attributes_lead, LeadsOn}
 use Rattle.rn_xml.proofs.Refusals.RefusedFronts.{lines_begin}
 use Rattle.rn_xml.proofs.RowReads.{got_left, got_last, got_all}
 use Rattle.rn_xml.proofs.Sources.{front_absent, inner_itself, inner_black, space_lines}
-use Rattle.rn_xml.proofs.TagSteps.{bindings_push, all_right}
+use Rattle.rn_xml.proofs.TagSteps.{bindings_push}
 
 -- ---- before a value
 

@@ -1,18 +1,18 @@
 -- Characters between tags behind which no tag comes.
-use Rattle.std.proofs.Common.{◌≡◌, ◌≢◌, ℕ, Bool, true, false, List, [], ◌∷◌, ◌++◌, refl, sym, ap, ◌∙◌, subst, arith, inl, inr, Bor, Some, None}
-use Rattle.std.specs.Prelude.{◌==◌, ◌||◌, ◌⊎◌, not, codes, Option, is_some, MatchOption, IfSome, IsNone, Result, Ok, Err, IfOk, IfErr}
+use Rattle.std.proofs.Common.{◌≡◌, ◌≢◌, ℕ, Bool, true, false, List, ◌∷◌, ◌++◌, refl, sym, ap, ◌∙◌, arith, inl, inr, Bor, Some, None}
+use Rattle.std.specs.Prelude.{◌==◌, ◌||◌, ◌⊎◌, not, codes, Option, is_some, MatchOption, IsNone, Result, Ok, Err, IfOk, IfErr}
 use Rattle.std.specs.Str.{chars}
-use Rattle.std.proofs.lemmas.Bool.{and_parts, and_from, both_ways, true≢false, false≢true}
+use Rattle.std.proofs.lemmas.Bool.{and_parts, and_from, true≢false, false≢true}
 use Rattle.std.proofs.lemmas.Bool.Decides.{nat_tests}
 use Rattle.rn_text.specs.Characters.{is_xml_char}
 use Rattle.rn_text.specs.Segments.{begins_with}
-use Rattle.rn_text.proofs.Words.EqualLists.{cons_first, cons_rest}
+use Rattle.rn_text.proofs.Words.EqualLists.{cons_first}
 use Rattle.rn_xml.specs.XmlCharacters.{lines_of, IsReference, IsComment, IsInstruction, IsSection, IsCharacters, is_data_char}
 use Rattle.rn_xml.specs.XmlCharacters as x
 use Rattle.rn_xml.specs.DocumentFaults.{IsOfText}
 use Rattle.rn_xml.specs.declared.stop.Stop.{Stop}
 use Rattle.rn_xml.specs.inside.Fronts.{opens_tag, opens_markup, IsBare, IsBroken, ReachNoTag}
-use Rattle.rn_xml.specs.inside.Pieces.{Appends, IsPiece, is_inner}
+use Rattle.rn_xml.specs.inside.Pieces.{IsPiece}
 use Rattle.rn_xml.proofs.Refusals.OneReading.Contents.{leads_on}
 use Rattle.rn_xml.proofs.Refusals.OneReading.FirstCharacters.{kind_of, tag_kind, data_kind, other_kind, reference_kind, comment_kind, instruction_kind, section_kind}
 use Rattle.rn_xml.proofs.Refusals.RefusedMarkup.{markup_no_tag, illegal_inner}

@@ -1,16 +1,16 @@
 -- XML declarations that are none.
-use Rattle.std.proofs.Common.{◌≡◌, ◌≢◌, ◌<◌, ◌-◌, ℕ, Bool, true, false, List, [], ◌∷◌, ◌++◌, length, get_or, take, drop, refl, sym, ap, ◌∙◌, subst, arith, inl, inr, append-nil, Bor, Some, None}
-use Rattle.std.specs.Prelude.{◌==◌, ◌⊎◌, ◌↔◌, not, codes, EachIndex, IsTrue, Option, MatchOption, encode_utf8_all, Result, Ok, Err, IfOk, IfErr}
-use Rattle.std.specs.Char.{is_ascii, is_ascii_alphabetic, is_ascii_digit}
+use Rattle.std.proofs.Common.{◌≡◌, ◌≢◌, ◌-◌, ℕ, Bool, true, false, List, [], ◌∷◌, ◌++◌, length, get_or, take, drop, refl, sym, ap, ◌∙◌, subst, arith, inr, Bor, Some, None}
+use Rattle.std.specs.Prelude.{◌==◌, ◌↔◌, codes, EachIndex, IsTrue, Option, MatchOption, Result, Ok, Err, IfOk, IfErr}
+use Rattle.std.specs.Char.{is_ascii, is_ascii_alphabetic}
 use Rattle.std.specs.List.{list_all}
 use Rattle.std.specs.Str.{IsUtf8, chars}
-use Rattle.std.proofs.lemmas.Bool.{and_parts, and_from, true≢false, false≢true}
+use Rattle.std.proofs.lemmas.Bool.{and_from, true≢false, false≢true}
 use Rattle.std.proofs.lemmas.Bool.Decides.{nat_tests}
 use Rattle.std.proofs.lemmas.List.{append_cancel_left, take_all}
 use Rattle.std.proofs.lemmas.Option.{none-some}
 use Rattle.std.specs.Result.{result_ok}
 use Rattle.rn_text.specs.Characters.{is_name_char, is_name_start, is_ncname}
-use Rattle.rn_text.specs.Segments.{begins_with, after_run, run_of, is_delimiter}
+use Rattle.rn_text.specs.Segments.{begins_with, after_run, run_of}
 use Rattle.rn_text.specs.Texts.{is_white}
 use Rattle.rn_text.proofs.Cutting.NameTokens.{name_chars}
 use Rattle.rn_text.proofs.Words.EqualLists.{cons_first, cons_rest}
@@ -21,15 +21,14 @@ use Rattle.rn_xml.specs.XmlDocuments as d
 use Rattle.rn_xml.specs.inside.Declared.{ClosesDeclaration, EndsDeclaration, HasRoot, IsDeclaration, IsOnlyField, LacksField, OpensNone, is_unquoted}
 use Rattle.rn_xml.specs.inside.Fronts.{opens_tag}
 use Rattle.rn_xml.specs.inside.Pieces.{IsNamedField, is_inner}
-use Rattle.rn_xml.proofs.AsciiFronts.{ascii_bytes, ascii_chars}
 use Rattle.rn_xml.proofs.Decoding.DeclarationFields.{space_there, white_run, some_white}
 use Rattle.rn_xml.proofs.Decoding.DeclarationParts.{letter_plain, encoding_ascii, encoding_inner}
 use Rattle.rn_xml.proofs.Decoding.DeclarationVersions.{all_each, lines_same}
 use Rattle.rn_xml.proofs.Decoding.NamedEncodings.{unquoted_version}
 use Rattle.rn_xml.proofs.Numbers.{all_pass_too, named_by}
-use Rattle.rn_xml.proofs.Refusals.OneReading.FirstCharacters.{kind_of, white_kind, comment_kind}
+use Rattle.rn_xml.proofs.Refusals.OneReading.FirstCharacters.{kind_of, comment_kind}
 use Rattle.rn_xml.proofs.Refusals.OneReading.Markup.{instruction_parts, run_of_name}
-use Rattle.rn_xml.proofs.Sources.{front_there, inner_front, inner_itself, inner_lines}
+use Rattle.rn_xml.proofs.Sources.{front_there, inner_itself}
 
 -- ---- words
 

@@ -1,5 +1,5 @@
 -- Texts that are no document.
-use Rattle.std.proofs.Common.{◌≡◌, ◌≢◌, ℕ, true, false, List, [], ◌∷◌, ◌++◌, refl, sym, ap, ◌∙◌, subst, Some, None, inl, inr}
+use Rattle.std.proofs.Common.{◌≡◌, ◌≢◌, ℕ, true, false, List, [], refl, sym, ap, ◌∙◌, subst, Some, inl, inr}
 use Rattle.std.specs.Prelude.{◌==◌, length}
 use Rattle.std.specs.Str.{IsUtf8, chars, encode_utf8_all}
 use Rattle.std.proofs.lemmas.Bool.{true≢false}
@@ -15,8 +15,8 @@ use Rattle.rn_xml.specs.XmlDocuments as d
 use Rattle.rn_xml.specs.declared.tags.TagReader.{TagReader}
 use Rattle.rn_xml.specs.inside.Declared.{HasRoot}
 use Rattle.rn_xml.specs.inside.Fronts.{opens_tag, IsRootOrEnd, LacksMisc, ReachNoTag}
-use Rattle.rn_xml.specs.inside.OpenElements.{OpenElement, LacksElement, LacksTag, Needs, NeedsElement, NeedsEnd, rows_opened, scope_of}
-use Rattle.rn_xml.specs.inside.ReadDocuments.{AreOpen, IsReading, place_of}
+use Rattle.rn_xml.specs.inside.OpenElements.{OpenElement, LacksElement, LacksTag, Needs, NeedsElement, NeedsEnd, scope_of}
+use Rattle.rn_xml.specs.inside.ReadDocuments.{IsReading}
 use Rattle.rn_xml.specs.inside.Rests.{source}
 use Rattle.rn_xml.proofs.Decoding.DeclarationVersions.{no_lines}
 use Rattle.rn_xml.proofs.Refusals.OneReading.Contents.{misc_leads_on}

@@ -1,8 +1,8 @@
 -- Comments, processing instructions and CDATA sections that are none.
-use Rattle.std.proofs.Common.{◌≡◌, ◌≢◌, ◌<◌, ℕ, Bool, true, false, List, [], ◌∷◌, ◌++◌, length, refl, sym, ap, ◌∙◌, subst, arith, inl, inr, append_assoc}
+use Rattle.std.proofs.Common.{◌≡◌, ◌≢◌, ◌<◌, ℕ, Bool, true, false, List, [], ◌∷◌, ◌++◌, length, refl, sym, ap, ◌∙◌, subst, arith, inl, inr}
 use Rattle.std.specs.Prelude.{◌==◌, ◌||◌, ◌⊎◌, not, codes}
 use Rattle.std.specs.List.{list_all}
-use Rattle.std.proofs.lemmas.Bool.{and_parts, both_ways, true≢false, false≢true, eqb-true}
+use Rattle.std.proofs.lemmas.Bool.{and_parts, both_ways, true≢false, false≢true}
 use Rattle.std.proofs.lemmas.Bool.Decides.{nat_tests}
 use Rattle.std.proofs.lemmas.List.{append_cancel_left}
 use Rattle.rn_text.specs.Characters.{is_xml_char, is_name_char, is_ncname}
@@ -13,7 +13,7 @@ use Rattle.rn_text.proofs.Words.EqualLists.{cons_first, cons_rest}
 use Rattle.rn_xml.specs.XmlCharacters.{lines_of, IsComment, IsTarget, IsInstruction, IsSection, AreMisc}
 use Rattle.rn_xml.specs.XmlCharacters as x
 use Rattle.rn_xml.specs.inside.Fronts.{opens_tag, opens_markup, IsBroken, IsRootOrEnd, LacksMisc}
-use Rattle.rn_xml.specs.inside.Pieces.{IsUpTo, IsPiece, here, further, is_inner, normal}
+use Rattle.rn_xml.specs.inside.Pieces.{IsUpTo, IsPiece, here, further, is_inner}
 use Rattle.rn_xml.proofs.Decoding.DeclarationFields.{white_there}
 use Rattle.rn_xml.proofs.Refusals.OneReading.Contents.{misc_leads_on}
 use Rattle.rn_xml.proofs.Refusals.OneReading.FirstCharacters.{kind_of, tag_kind, comment_kind, instruction_kind, section_kind}

@@ -1,9 +1,8 @@
 -- Names that are none.
-use Rattle.std.proofs.Common.{◌≡◌, ◌≢◌, ℕ, Bool, true, false, cond, List, [], ◌∷◌, ◌++◌, refl, sym, ap, ◌∙◌, subst, append_assoc}
-use Rattle.std.specs.Prelude.{◌==◌, ◌||◌, not}
+use Rattle.std.proofs.Common.{◌≡◌, ◌≢◌, ℕ, true, false, cond, List, [], ◌∷◌, ◌++◌, refl, sym, ap, ◌∙◌, append_assoc}
+use Rattle.std.specs.Prelude.{◌==◌}
 use Rattle.std.specs.List.{list_all}
 use Rattle.std.proofs.lemmas.Bool.{and_parts, and_from, both_ways, true≢false, false≢true, eqb-true}
-use Rattle.std.proofs.lemmas.List.{append_cancel_left}
 use Rattle.rn_text.specs.Characters.{is_name_char, is_name_start, is_ncname}
 use Rattle.rn_text.specs.Segments.{begins_with, run_of, after_run}
 use Rattle.rn_text.proofs.Cutting.NameTokens.{start_is_char, colon_is_none}

@@ -1,15 +1,13 @@
 -- Names of attributes that mean nothing, or that two attributes of a tag have.
-use Rattle.std.proofs.Common.{◌≡◌, ◌≢◌, ◌<◌, ◌≤◌, ◌+◌, ℕ, zero, suc, Bool, true, false, List, [], ◌∷◌, ◌++◌, length, get_or, refl, sym, ap, ◌∙◌, subst, arith, ⊎_elim, length-append, inl, inr, Some, None}
+use Rattle.std.proofs.Common.{◌≡◌, ◌≢◌, ◌<◌, ◌≤◌, ℕ, zero, suc, List, [], ◌∷◌, ◌++◌, length, get_or, refl, sym, ap, ◌∙◌, subst, arith, ⊎_elim, length-append, inl, inr, Some, None}
 use Rattle.std.specs.Prelude.{◌==◌, ◌⊎◌, All, Option, map, codes, slice_get, vec_len, bytes_eq, if◌then◌else◌, encode_utf8_all}
 use Rattle.std.specs.BTreeSet.{BTreeSet}
 use Rattle.std.specs.Option.{option_map}
 use Rattle.std.proofs.lemmas.Bool.{both_ways, cases_Bool, cond-true, cond-false}
-use Rattle.std.proofs.lemmas.Bool.Decides.{nat_tests}
-use Rattle.std.proofs.lemmas.List.{append_assoc}
 use Rattle.std.proofs.lemmas.List.Elements.{All-append}
 use Rattle.std.proofs.lemmas.Option.{none-some, get_or_from_slice_get, slice_get_within}
 use Rattle.rn_text.specs.Texts.{Text}
-use Rattle.rn_xml.specs.Infoset.{Attribute, Binding}
+use Rattle.rn_xml.specs.Infoset.{Attribute}
 use Rattle.rn_xml.specs.PrefixScopes.{around, innermost, uri_found, uri_at}
 use Rattle.rn_xml.specs.XmlTags.{WrittenAttribute, Scope, MayBind, AreNamed, AreUnique, attribute_uri, declared_prefix, uri_in, bindings, xml_uri}
 use Rattle.rn_xml.specs.XmlTags as x
@@ -19,18 +17,15 @@ use Rattle.rn_xml.specs.declared.document.XmlDeclaration.{XmlDeclaration}
 use Rattle.rn_xml.specs.declared.document.XmlDocument.{XmlDocument}
 use Rattle.rn_xml.specs.declared.scopes.Scopes.{Scopes}
 use Rattle.rn_xml.specs.declared.tags.TagReader.{TagReader}
-use Rattle.rn_xml.specs.inside.KnownTexts.{index_in, KnowsUris}
+use Rattle.rn_xml.specs.inside.KnownTexts.{KnowsUris}
 use Rattle.rn_xml.specs.inside.NamedRows.{CannotName, RepeatsName, row_named}
 use Rattle.rn_xml.specs.inside.OpenTables.{binding_at, Denotes}
-use Rattle.rn_xml.specs.inside.SeenPairs.{has_pair}
 use Rattle.rn_xml.specs.inside.TagTables.{HasAttributes, LackNames, attribute_index}
 use Rattle.rn_xml.specs.inside.WrittenAttributes.{Unnamed, unnamed_of, unnamed, unnamed_before}
-use Rattle.rn_xml.proofs.NamedAttributes.{NamesUpTo, AreNamedRows, tag_parts, attribute_means, row_at, same_index, names_parted}
-use Rattle.rn_xml.proofs.RowReads.{got_left, got_last}
+use Rattle.rn_xml.proofs.NamedAttributes.{NamesUpTo, AreNamedRows, tag_parts, attribute_means, same_index, names_parted}
+use Rattle.rn_xml.proofs.RowReads.{got_left}
 use Rattle.rn_xml.proofs.ScopeMeans.{equal_bytes, other_bytes, innermost_last}
-use Rattle.rn_xml.proofs.ScopeSteps.{same_bytes}
-use Rattle.rn_xml.proofs.TagNames.{empty_text, some_text}
-use Rattle.rn_xml.proofs.TagSteps.{knows_same}
+use Rattle.rn_xml.proofs.TagNames.{some_text}
 
 -- ---- a prefix that means nothing
 

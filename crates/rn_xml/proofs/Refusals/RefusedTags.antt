@@ -1,23 +1,20 @@
 -- Start tags that are none.
-use Rattle.std.proofs.Common.{◌≡◌, ◌≢◌, ℕ, true, false, List, [], ◌∷◌, ◌++◌, refl, sym, ap, ◌∙◌, subst, Some, None}
+use Rattle.std.proofs.Common.{◌≡◌, ℕ, true, false, List, [], ◌∷◌, ◌++◌, refl, sym, ap, ◌∙◌, subst, None}
 use Rattle.std.specs.Prelude.{◌==◌, All, encode_utf8_all}
 use Rattle.std.specs.Str.{chars, IsUtf8}
-use Rattle.std.proofs.lemmas.Bool.{true≢false, false≢true}
+use Rattle.std.proofs.lemmas.Bool.{true≢false}
 use Rattle.std.proofs.lemmas.Option.{none-some}
 use Rattle.std.proofs.lemmas.Str.{encodes-chars}
 use Rattle.rn_text.specs.Characters.{is_name_start}
 use Rattle.rn_text.specs.Segments.{begins_with, after_run}
-use Rattle.rn_text.specs.Texts.{Text, is_white}
-use Rattle.rn_text.proofs.Words.EqualLists.{cons_first, cons_rest}
+use Rattle.rn_text.specs.Texts.{is_white}
+use Rattle.rn_text.proofs.Words.EqualLists.{cons_rest}
 use Rattle.rn_xml.specs.Infoset.{Name, Attribute, Binding}
 use Rattle.rn_xml.specs.XmlCharacters.{lines_of, MaySpace}
-use Rattle.rn_xml.specs.XmlTags.{WrittenAttribute, Scope, MayBind, AreAttributes, AreDistinct, AreNamed, AreUnique, IsTagFront, bindings, uri_in}
+use Rattle.rn_xml.specs.XmlTags.{WrittenAttribute, Scope, MayBind, AreAttributes, AreDistinct, AreNamed, IsTagFront, bindings, uri_in}
 use Rattle.rn_xml.specs.declared.characters.QName.{QName}
-use Rattle.rn_xml.specs.declared.tags.TagReader.{TagReader}
-use Rattle.rn_xml.specs.inside.Fronts.{BeginsName, ends_name, closes_tag, is_tag_end, ends_attributes}
+use Rattle.rn_xml.specs.inside.Fronts.{BeginsName, ends_name, closes_tag, ends_attributes}
 use Rattle.rn_xml.specs.inside.OpenElements.{LacksTag}
-use Rattle.rn_xml.specs.inside.OpenTables.{binding_at, Denotes}
-use Rattle.rn_xml.specs.PrefixScopes.{around, uri_at}
 use Rattle.rn_xml.specs.inside.Pieces.{SplitsName}
 use Rattle.rn_xml.specs.inside.TagTables.{LackNames, LacksAttributes}
 use Rattle.rn_xml.specs.inside.WrittenAttributes.{AreSpacedAttributes}

@@ -1,18 +1,17 @@
 -- Values of attributes that are none.
-use Rattle.std.proofs.Common.{◌≡◌, ◌≢◌, ℕ, Bool, true, false, List, [], ◌∷◌, ◌++◌, refl, sym, ap, ◌∙◌, subst, arith}
-use Rattle.std.specs.Prelude.{◌==◌, ◌||◌, not, if◌then◌else◌}
-use Rattle.std.proofs.lemmas.Bool.{and_parts, and_left, and_right, both_ways, true≢false}
+use Rattle.std.proofs.Common.{◌≡◌, ◌≢◌, ℕ, true, false, List, [], ◌∷◌, ◌++◌, refl, sym, ap, ◌∙◌, subst, arith}
+use Rattle.std.specs.Prelude.{◌==◌, ◌||◌, not}
+use Rattle.std.proofs.lemmas.Bool.{and_left, and_right, true≢false}
 use Rattle.std.proofs.lemmas.Bool.Decides.{nat_tests}
 use Rattle.rn_text.specs.Characters.{is_xml_char}
-use Rattle.rn_text.specs.Segments.{begins_with, is_delimiter}
+use Rattle.rn_text.specs.Segments.{is_delimiter}
 use Rattle.rn_text.specs.Texts.{is_white}
 use Rattle.rn_text.proofs.Words.EqualLists.{cons_first, cons_rest}
 use Rattle.rn_xml.specs.XmlCharacters.{lines_of, IsReference, IsValue, is_value_char}
 use Rattle.rn_xml.specs.XmlCharacters as x
 use Rattle.rn_xml.specs.inside.Fronts.{LeavesValue}
-use Rattle.rn_xml.specs.inside.Pieces.{normal}
 use Rattle.rn_xml.proofs.Refusals.OneReading.References.{body_of, reference_once}
-use Rattle.rn_xml.proofs.Refusals.OneReading.Values.{reference_step, step_is, step_of, value_step}
+use Rattle.rn_xml.proofs.Refusals.OneReading.Values.{reference_step, step_is, step_of}
 use Rattle.rn_xml.proofs.Sources.{lines_step, normal_cases}
 
 no_cons : (c : ℕ) (cs : List ℕ) → [] ≢ c ∷ cs

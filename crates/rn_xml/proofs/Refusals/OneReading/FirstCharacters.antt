@@ -1,11 +1,10 @@
 -- The first characters of the pieces of a content: at most one kind of piece begins with them.
-use Rattle.std.proofs.Common.{◌≡◌, ℕ, true, false, cond, List, [], ◌∷◌, ◌++◌, refl, sym, ap, ◌∙◌, arith}
-use Rattle.std.specs.Prelude.{◌==◌, ◌||◌, ◌&&◌, not, if◌then◌else◌}
+use Rattle.std.proofs.Common.{◌≡◌, ℕ, true, false, cond, List, [], ◌∷◌, ◌++◌, refl, ap, ◌∙◌, arith}
+use Rattle.std.specs.Prelude.{◌==◌, ◌||◌, not, if◌then◌else◌}
 use Rattle.std.specs.List.{list_all}
 use Rattle.std.proofs.lemmas.Bool.{and_parts, false≢true, eqb-true}
 use Rattle.std.proofs.lemmas.Bool.Decides.{nat_tests}
 use Rattle.rn_text.specs.Characters.{is_name_start, is_name_char, is_ncname}
-use Rattle.rn_text.specs.Segments.{begins_with}
 use Rattle.rn_text.specs.Texts.{is_white}
 use Rattle.rn_xml.specs.XmlCharacters.{IsReference, IsSection, IsComment, IsInstruction, is_data_char}
 use Rattle.rn_xml.specs.XmlCharacters as x

@@ -1,18 +1,18 @@
 -- Comments, processing instructions and CDATA sections are read in one way.
-use Rattle.std.proofs.Common.{◌≡◌, ◌≢◌, ℕ, Bool, true, false, cond, List, [], ◌∷◌, ◌++◌, refl, sym, ap, ◌∙◌, subst, arith, inl, inr}
-use Rattle.std.specs.Prelude.{◌==◌, ◌⊎◌, codes}
+use Rattle.std.proofs.Common.{◌≡◌, ◌≢◌, ℕ, Bool, true, false, cond, List, [], ◌∷◌, ◌++◌, refl, sym, ap, ◌∙◌, arith, inl, inr}
+use Rattle.std.specs.Prelude.{◌⊎◌, codes}
 use Rattle.std.specs.List.{list_all}
-use Rattle.std.proofs.lemmas.Bool.{and_parts, and_from, both_ways, eqb-true, false≢true}
+use Rattle.std.proofs.lemmas.Bool.{and_parts, false≢true}
 use Rattle.std.proofs.lemmas.Bool.Decides.{nat_tests}
 use Rattle.std.proofs.lemmas.List.{append_cancel_left}
-use Rattle.rn_text.specs.Characters.{is_xml_char, is_name_char, is_name_start, is_ncname}
+use Rattle.rn_text.specs.Characters.{is_xml_char, is_name_char, is_name_start}
 use Rattle.rn_text.specs.Segments.{begins_with, run_of, after_run}
 use Rattle.rn_text.specs.Texts.{is_white}
 use Rattle.rn_text.proofs.Cutting.NameTokens.{name_chars}
 use Rattle.rn_text.proofs.Words.EqualLists.{cons_first, cons_rest}
 use Rattle.rn_xml.specs.XmlCharacters.{IsComment, IsTarget, IsInstruction, IsSection}
 use Rattle.rn_xml.specs.XmlCharacters as x
-use Rattle.rn_xml.specs.inside.Pieces.{IsUpTo, here, further}
+use Rattle.rn_xml.specs.inside.Pieces.{IsUpTo, further}
 use Rattle.rn_xml.proofs.Decoding.NamedEncodings.{white_stops}
 use Rattle.rn_xml.proofs.Refusals.OneReading.UpToOneEnd.{up_to_once, up_to_first, first_dashes, first_mark, first_brackets}
 

@@ -1,14 +1,13 @@
 -- A name, white space and `=` are read in one way.
-use Rattle.std.proofs.Common.{◌≡◌, ◌≢◌, ℕ, Bool, true, false, List, [], ◌∷◌, ◌++◌, refl, sym, ap, ◌∙◌, subst, arith, append_assoc}
+use Rattle.std.proofs.Common.{◌≡◌, ℕ, Bool, true, false, List, [], ◌∷◌, ◌++◌, refl, sym, ap, ◌∙◌, arith, append_assoc}
 use Rattle.std.specs.Prelude.{◌==◌, ◌||◌, not}
-use Rattle.std.specs.List.{list_all}
 use Rattle.std.proofs.lemmas.Bool.{true≢false, false≢true}
 use Rattle.std.proofs.lemmas.Bool.Decides.{nat_tests}
 use Rattle.rn_text.specs.Characters.{is_name_char, is_name_start, is_ncname}
 use Rattle.rn_text.specs.Segments.{begins_with, after_run, run_of}
 use Rattle.rn_text.specs.Texts.{is_white}
 use Rattle.rn_text.proofs.Cutting.NameTokens.{name_chars, colon_is_none}
-use Rattle.rn_text.proofs.Words.EqualLists.{cons_first, cons_rest}
+use Rattle.rn_text.proofs.Words.EqualLists.{cons_rest}
 use Rattle.rn_xml.specs.XmlCharacters.{MaySpace, IsSpace}
 use Rattle.rn_xml.specs.XmlCharacters as x
 use Rattle.rn_xml.specs.XmlTags.{IsEq, IsQName}

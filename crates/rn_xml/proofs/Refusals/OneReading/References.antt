@@ -4,7 +4,7 @@ use Rattle.std.specs.Prelude.{◌==◌, not, codes, bytes_eq, if◌then◌else�
 use Rattle.std.specs.Char.{is_ascii_digit, is_ascii_hexdigit}
 use Rattle.std.specs.List.{list_all}
 use Rattle.std.specs.Str.Parse.{digits_value}
-use Rattle.std.proofs.lemmas.Bool.{and_from, and_parts}
+use Rattle.std.proofs.lemmas.Bool.{and_parts}
 use Rattle.std.proofs.lemmas.Bool.Decides.{nat_tests}
 use Rattle.rn_xml.specs.XmlCharacters.{IsEntity, IsReference}
 use Rattle.rn_xml.specs.XmlCharacters as x

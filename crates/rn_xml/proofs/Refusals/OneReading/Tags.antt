@@ -1,6 +1,5 @@
 -- Attributes and tags are read in one way.
-use Rattle.std.proofs.Common.{◌≡◌, ◌≢◌, ℕ, Bool, true, false, List, [], ◌∷◌, ◌++◌, refl, sym, ap, ◌∙◌, subst, arith, append-nil}
-use Rattle.std.specs.Prelude.{◌==◌, ◌||◌, not}
+use Rattle.std.proofs.Common.{◌≡◌, ℕ, true, false, List, [], ◌∷◌, ◌++◌, refl, sym, ap, ◌∙◌, subst, arith, append-nil}
 use Rattle.std.proofs.lemmas.Bool.{and_parts, true≢false, false≢true, both_ways}
 use Rattle.std.proofs.lemmas.Bool.Decides.{nat_tests}
 use Rattle.std.proofs.lemmas.List.{append_cancel_left}
@@ -15,7 +14,7 @@ use Rattle.rn_xml.specs.XmlCharacters as x
 use Rattle.rn_xml.specs.XmlTags.{IsEq, IsQName, IsAttribute, AreAttributes, WrittenAttribute, Scope, IsTagFront, IsEndTag, bindings}
 use Rattle.rn_xml.specs.XmlTags as t
 use Rattle.rn_xml.specs.inside.Fronts.{ends_name, is_tag_end}
-use Rattle.rn_xml.proofs.Decoding.DeclarationFields.{white_run, white_all, some_white}
+use Rattle.rn_xml.proofs.Decoding.DeclarationFields.{white_run, some_white}
 use Rattle.rn_xml.proofs.Refusals.OneReading.Names.{qname_once, equals_ends, space_ends, some_space_ends, end_ends, some_space_once, equals_once}
 use Rattle.rn_xml.proofs.Refusals.OneReading.Values.{att_value_once}
 

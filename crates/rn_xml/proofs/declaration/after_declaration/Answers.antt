@@ -1,5 +1,4 @@
 use Rattle.rn_xml.specs.XmlDocuments as d
-use Rattle.std.specs.Str.{chars}
 use Rattle.rn_xml.specs.inside.Rests.{source}
 use Rattle.rn_xml.proofs.Refusals.RefusedDeclarations.{no_declaration, inside_only, inside_refused}
 use Rattle.rn_xml.proofs.declaration.after_declaration.Goals as goal

@@ -5,7 +5,6 @@ use Rattle.rn_xml.proofs.QNames.{name_split}
 use Rattle.rn_xml.proofs.Refusals.RefusedFronts.{if_err}
 use Rattle.rn_xml.proofs.Refusals.RefusedMarkup.{instruction_broken, no_instruction, no_target, reserved_target, no_space, no_mark_end}
 use Rattle.rn_xml.proofs.Decoding.DeclarationFields.{no_white}
-use Rattle.std.proofs.Common.{arith}
 use Rattle.rn_xml.proofs.markup.after_instruction.Goals as goal
 
 pub returns-in-Some-after_front-clause-instruction : goal.returns-in-Some-after_front-clause-instruction

@@ -1,4 +1,4 @@
-use Rattle.std.proofs.Common.{◌∙◌, refl, sym}
+use Rattle.std.proofs.Common.{refl}
 use Rattle.std.specs.Prelude.{codes}
 use Rattle.rn_xml.specs.XmlCharacters as x
 use Rattle.rn_xml.proofs.Numbers.{entity_of, no_entity}

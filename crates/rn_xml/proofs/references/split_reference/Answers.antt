@@ -2,7 +2,6 @@ use Rattle.std.proofs.Common.{sym, subst}
 use Rattle.std.specs.Str.{chars}
 use Rattle.rn_xml.specs.XmlCharacters.{IsReference, lines_of}
 use Rattle.rn_xml.proofs.Numbers.{reference_lines}
-use Rattle.std.proofs.Common.{◌≡◌, ◌∷◌, ℕ, List, false}
 use Rattle.rn_xml.proofs.Refusals.RefusedFronts.{if_err}
 use Rattle.rn_xml.proofs.Refusals.RefusedReferences.{no_reference, no_ampersand}
 use Rattle.rn_xml.proofs.references.split_reference.Goals as goal

@@ -1,12 +1,6 @@
 use Rattle.std.specs.Str.{chars}
 use Rattle.rn_xml.proofs.Numbers.{decimal_answer, hexadecimal_answer, entity_reference}
 use Rattle.rn_xml.proofs.QNames.{name_split}
-use Rattle.std.proofs.Common.{◌∷◌, ◌∙◌, refl, sym, ap}
-use Rattle.std.proofs.lemmas.Bool.{both_ways, true≢false}
-use Rattle.rn_text.specs.Characters.{is_ncname, is_name_char}
-use Rattle.rn_text.specs.Segments.{run_of, begins_with}
-use Rattle.std.specs.Prelude.{◌==◌}
-use Rattle.rn_xml.specs.XmlCharacters.{IsEntity}
 use Rattle.rn_xml.proofs.Refusals.RefusedFronts.{if_err}
 use Rattle.rn_xml.proofs.Refusals.RefusedReferences.{hexadecimal_refused, decimal_refused, no_entity_name, no_entity_end, no_entity_known}
 use Rattle.rn_xml.proofs.references.split_target.Goals as goal

@@ -1,8 +1,7 @@
-use Rattle.std.proofs.Common.{◌≡◌, ◌∷◌, ◌∙◌, true, false, sym, ap}
+use Rattle.std.proofs.Common.{◌∙◌, sym, ap}
 use Rattle.std.specs.Prelude.{◌==◌}
 use Rattle.std.specs.Str.{chars}
-use Rattle.rn_text.specs.Segments.{after_run, begins_with, is_delimiter}
-use Rattle.rn_text.specs.Texts.{is_white}
+use Rattle.rn_text.specs.Segments.{begins_with, is_delimiter}
 use Rattle.rn_xml.proofs.AttributeValues.{delimiter_inner, equals_read}
 use Rattle.rn_xml.proofs.Refusals.RefusedAttributes.{no_equals, no_quote_behind}
 use Rattle.rn_xml.proofs.Refusals.RefusedFronts.{if_err}
