@@ -161,7 +161,7 @@ fn read_whole<'a>(alloc: Global, text: &'a str) -> Result<XmlDocument<'a>, Stop>
 /// The document that the text is (XML 1.0 Fifth Edition; Namespaces in XML 1.0). Refused at its first fault: where the
 /// text is not well-formed, has a document type declaration, or more than [`MAX_DEPTH`] elements are open, and wherever
 /// memory is. The names of a tag are faulty only if all of the tag is read: then first its own, and then those of its
-/// attributes in text order.
+/// attributes in text order. Where the fault is neither the depth nor memory, the text is no document.
 ///
 /// [`MAX_DEPTH`]: crate::MAX_DEPTH
 pub fn read_document<'a>(alloc: Global, text: &'a str) -> Result<XmlDocument<'a>, XmlFault>

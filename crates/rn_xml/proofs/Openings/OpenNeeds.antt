@@ -8,7 +8,7 @@ use Rattle.rn_text.specs.Segments.{begins_with}
 use Rattle.rn_text.proofs.Words.EqualLists.{cons_first, cons_rest}
 use Rattle.rn_xml.specs.Infoset.{Name, Binding, Attribute, Node, Nodes, no_nodes, more_nodes}
 use Rattle.rn_xml.specs.XmlCharacters.{IsCharacters}
-use Rattle.rn_xml.specs.XmlTags.{Scope, IsQName, IsTagFront, IsEndTag}
+use Rattle.rn_xml.specs.XmlTags.{Scope, IsTagFront, IsEndTag}
 use Rattle.rn_xml.specs.XmlDocuments.{IsElement, IsContent, with_characters}
 use Rattle.rn_xml.specs.XmlDocuments as d
 use Rattle.rn_xml.specs.XmlTags as t
@@ -121,9 +121,14 @@ tag_needs cs e around tag mid needs front x left h = let all = needs x left h in
         let same = tag_front_once (scope_of around) tag e.qname q e.name n e.bound b e.attributes a 62 47 mid (62 ∷ behind) front front2 refl refl in
         absurd (true≢false (ap (begins_with (λ c. c == 62)) same.2))
     at y behind (d.IsElement.tags {qname = q} {mid = m} {after = f} {name = n} {bound = b} {attributes = a} {k = k} front2 content closes) rest =
-        let same = tag_front_once (scope_of around) tag e.qname q e.name n e.bound b e.attributes a 62 62 mid m front front2 refl refl in
-        (k, f, behind, subst (λ l. IsContent (e.bound ++ scope_of around) l k f) (sym (cons_rest same.2)) (subst (λ l. IsContent (l ++ scope_of around) m k f) (sym same.1) content),
-        subst (λ l. IsEndTag l f behind) (sym same.0) closes, rest)
+        let same = tag_front_once (scope_of around) tag e.qname q e.name n e.bound b e.attributes a 62 62 mid m front front2 refl refl in (
+          k,
+          f,
+          behind,
+          subst (λ l. IsContent (e.bound ++ scope_of around) l k f) (sym (cons_rest same.2)) (subst (λ l. IsContent (l ++ scope_of around) m k f) (sym same.1) content),
+          subst (λ l. IsEndTag l f behind) (sym same.0) closes,
+          rest,
+        )
 
 pub empty_tag_needs : (cs : List ℕ) (e : OpenElement) (around : List OpenElement) (tag rest : List ℕ) → NeedsElement cs around tag → IsTagFront (scope_of around) tag e.qname e.name e.bound e.attributes (47 ∷ 62 ∷ rest) → Needs cs around rest
 empty_tag_needs cs e around tag rest needs front x left h = let all = needs x left h in at all.0 all.1 all.2 all.3

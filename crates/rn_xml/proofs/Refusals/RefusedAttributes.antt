@@ -13,7 +13,7 @@ use Rattle.rn_text.proofs.Words.EqualLists.{cons_first, cons_rest}
 use Rattle.rn_xml.specs.Infoset.{Binding}
 use Rattle.rn_xml.specs.XmlCharacters.{lines_of, MaySpace, IsSpace, IsValue, IsAttValue}
 use Rattle.rn_xml.specs.XmlCharacters as x
-use Rattle.rn_xml.specs.XmlTags.{IsEq, IsQName, IsAttribute, AreAttributes, WrittenAttribute, MayBind, AreDistinct, bindings, binding_before, declared_prefix}
+use Rattle.rn_xml.specs.XmlTags.{IsEq, IsAttribute, AreAttributes, WrittenAttribute, MayBind, AreDistinct, bindings, binding_before, declared_prefix}
 use Rattle.rn_xml.specs.XmlTags as t
 use Rattle.rn_xml.specs.declared.characters.QName.{QName}
 use Rattle.rn_xml.specs.inside.Fronts.{BeginsName, ends_name, closes_tag, is_tag_end, ends_attributes}

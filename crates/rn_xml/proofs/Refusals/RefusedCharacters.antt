@@ -7,7 +7,7 @@ use Rattle.std.proofs.lemmas.Bool.Decides.{nat_tests}
 use Rattle.rn_text.specs.Characters.{is_xml_char}
 use Rattle.rn_text.specs.Segments.{begins_with}
 use Rattle.rn_text.proofs.Words.EqualLists.{cons_first}
-use Rattle.rn_xml.specs.XmlCharacters.{lines_of, IsReference, IsComment, IsInstruction, IsSection, IsCharacters, is_data_char}
+use Rattle.rn_xml.specs.XmlCharacters.{lines_of, IsReference, IsSection, IsCharacters, is_data_char}
 use Rattle.rn_xml.specs.XmlCharacters as x
 use Rattle.rn_xml.specs.DocumentFaults.{IsOfText}
 use Rattle.rn_xml.specs.declared.stop.Stop.{Stop}

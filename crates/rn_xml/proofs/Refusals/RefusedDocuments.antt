@@ -10,7 +10,7 @@ use Rattle.rn_xml.specs.Infoset.{Node}
 use Rattle.rn_xml.specs.PrefixScopes.{innermost}
 use Rattle.rn_xml.specs.XmlCharacters.{lines_of, AreMisc}
 use Rattle.rn_xml.specs.XmlTags.{IsEndTag}
-use Rattle.rn_xml.specs.XmlDocuments.{IsElement, IsProduced, IsXmlDocument, MayDeclare}
+use Rattle.rn_xml.specs.XmlDocuments.{IsElement, IsProduced}
 use Rattle.rn_xml.specs.XmlDocuments as d
 use Rattle.rn_xml.specs.declared.tags.TagReader.{TagReader}
 use Rattle.rn_xml.specs.inside.Declared.{HasRoot}

@@ -89,7 +89,7 @@ no_character radix number cs rest after low h first none c behind n = at on.tail
 -- nothing was read where nothing shorter is left
 pub none_read : (radix number : ℕ) (text rest : List ℕ) → IsUtf8 text → IsUtf8 rest → (h : HasDigits radix (chars text) number (chars rest)) → length text ≤ length rest → h.digits ≡ []
 none_read radix number text rest t r h low = empty h.digits (
-  let split = bytes_split text rest h.digits t r h.splits in omega (arith, ap length split, length-append (encode_utf8_all h.digits) rest, length-le-encodes h.digits))
+    let split = bytes_split text rest h.digits t r h.splits in omega (arith, ap length split, length-append (encode_utf8_all h.digits) rest, length-le-encodes h.digits))
   where
     empty : (ds : List ℕ) → length ds ≤ 0 → ds ≡ []
     empty [] l = refl

@@ -9,7 +9,7 @@ use Rattle.std.proofs.lemmas.Option.{none-some, get_or_from_slice_get, slice_get
 use Rattle.rn_text.specs.Texts.{Text}
 use Rattle.rn_xml.specs.Infoset.{Attribute}
 use Rattle.rn_xml.specs.PrefixScopes.{around, innermost, uri_found, uri_at}
-use Rattle.rn_xml.specs.XmlTags.{WrittenAttribute, Scope, MayBind, AreNamed, AreUnique, attribute_uri, declared_prefix, uri_in, bindings, xml_uri}
+use Rattle.rn_xml.specs.XmlTags.{WrittenAttribute, Scope, MayBind, AreNamed, AreUnique, attribute_uri, uri_in, bindings, xml_uri}
 use Rattle.rn_xml.specs.XmlTags as x
 use Rattle.rn_xml.specs.DocumentTrees.{uri_at_index, binding_of}
 use Rattle.rn_xml.specs.declared.document.XmlAttribute.{XmlAttribute}

@@ -16,16 +16,17 @@ abbrev pub opens_markup : List ℕ → Bool
 opens_markup [] = false
 opens_markup (c ∷ cs) = c == 60 && begins_with (λ d. d == 33 || d == 63) cs
 
--- none of these is whole that begins
+-- one of these may begin, and none that is whole does
 pub record IsBroken (cs : List ℕ) : Type 0 where
   pub opens : opens_markup cs ≡ true
   pub no_piece : (rest : List ℕ) → ¬ IsPiece cs rest
   pub no_section : (inside rest : List ℕ) → ¬ IsSection cs inside rest
 
--- no characters of an element begin, nor what stands around the root
+-- none of the characters of an element begin
 abbrev pub IsBare : List ℕ → Type 0
 IsBare cs = (text rest : List ℕ) → IsCharacters cs text rest → rest ≡ cs
 
+-- neither white space nor a comment nor a processing instruction begins
 abbrev pub LacksMisc : List ℕ → Type 0
 LacksMisc cs = (rest : List ℕ) → AreMisc cs rest → rest ≡ cs
 

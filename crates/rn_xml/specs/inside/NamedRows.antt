@@ -37,7 +37,7 @@ pub record NamesRow (old new : TagReader) (index : ℕ) (seen newer : BTreeSet (
   pub seen_still : (p : ℕ × ℕ) → has_pair seen p ≡ true → has_pair newer p ≡ true
   pub seen_only : (p : ℕ × ℕ) → has_pair newer p ≡ true → ((p.0 ≡ uri) × (p.1 ≡ local)) ⊎ (has_pair seen p ≡ true)
 
--- the row of this index has a name that was seen, where the new reader knows the old one's local names
+-- the row has a name that was seen, where the new reader knows the old one's local names
 pub record RepeatsName (old new : TagReader) (row : XmlAttribute) (seen : BTreeSet (ℕ × ℕ)) : Type 0 where
   pub uri : ℕ
   pub local : ℕ

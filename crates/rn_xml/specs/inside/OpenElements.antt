@@ -60,10 +60,6 @@ Reads cs e around rest = (k : Nodes) (after behind : List ℕ) → IsContent (e.
 abbrev pub TakesElement : List ℕ → List OpenElement → List ℕ → Type 0
 TakesElement cs opened rest = (x : Node) (behind : List ℕ) → IsElement (scope_of opened) rest x behind → Closes cs opened x behind
 
--- no start tag begins here, nor that of an element without content
-abbrev pub LacksTag : Scope → List ℕ → Type 0
-LacksTag scope cs = (qname : List ℕ) (name : Name) (bound : List Binding) (attributes : List Attribute) (rest : List ℕ) → IsTagFront scope cs qname name bound attributes rest → ¬ (closes_tag rest ≡ true)
-
 -- the same, where the innermost may end
 abbrev pub TakesEnd : List ℕ → OpenElement → List OpenElement → List ℕ → Type 0
 TakesEnd cs e around rest = (behind : List ℕ) → IsEndTag e.qname rest behind → Closes cs around (finished e no_nodes) behind
@@ -84,6 +80,10 @@ NeedsElement cs opened rest = (x : Node) (left : List ℕ) → IsElement [] cs x
 -- the same, where the innermost ends
 abbrev pub NeedsEnd : List ℕ → OpenElement → List OpenElement → List ℕ → Type 0
 NeedsEnd cs e around rest = (x : Node) (left : List ℕ) → IsElement [] cs x left → (behind : List ℕ) × IsEndTag e.qname rest behind × EndsAll around behind left
+
+-- no start tag begins here, nor that of an element without content
+abbrev pub LacksTag : Scope → List ℕ → Type 0
+LacksTag scope cs = (qname : List ℕ) (name : Name) (bound : List Binding) (attributes : List Attribute) (rest : List ℕ) → IsTagFront scope cs qname name bound attributes rest → ¬ (closes_tag rest ≡ true)
 
 -- no element is at the front
 abbrev pub LacksElement : List ℕ → Type 0

@@ -1,7 +1,7 @@
 -- What is between tags, and what is around the root: of two readings of the same characters one goes on where the other ends.
 use Rattle.std.proofs.Common.{◌≡◌, ℕ, List, [], refl, sym, ap, ◌∙◌, subst, arith, inl, inr, ⊎_elim}
 use Rattle.std.specs.Prelude.{◌⊎◌}
-use Rattle.rn_xml.specs.XmlCharacters.{IsReference, IsSection, IsComment, IsInstruction, IsCharacters, AreMisc, is_data_char}
+use Rattle.rn_xml.specs.XmlCharacters.{IsCharacters, AreMisc}
 use Rattle.rn_xml.specs.XmlCharacters as x
 use Rattle.rn_xml.proofs.Refusals.OneReading.FirstCharacters.{kind_of, reference_kind, section_kind, comment_kind, instruction_kind, data_kind, white_kind}
 use Rattle.rn_xml.proofs.Refusals.OneReading.References.{reference_once}

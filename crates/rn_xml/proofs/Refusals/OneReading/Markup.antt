@@ -26,7 +26,8 @@ pub record CommentParts (cs rest : List ℕ) : Type 0 where
 
 pub comment_parts : (cs rest : List ℕ) → IsComment cs rest → CommentParts cs rest
 comment_parts cs rest (x.IsComment.comment inside {rest = r} legal lacks) =
-    record { body = inside ++ (codes "-->" ++ r); inside = inside; is = refl; up_to = up_to_first (codes "--") inside (62 ∷ r) legal (first_dashes inside lacks) }
+    let first = first_dashes inside lacks in
+    record { body = inside ++ (codes "-->" ++ r); inside = inside; is = refl; up_to = up_to_first (codes "--") inside (62 ∷ r) legal first }
 
 pub comment_once : (cs ds r s : List ℕ) → IsComment cs r → IsComment ds s → cs ≡ ds → r ≡ s
 comment_once cs ds r s h k e =

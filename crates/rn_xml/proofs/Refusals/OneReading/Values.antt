@@ -6,7 +6,7 @@ use Rattle.std.proofs.lemmas.Bool.Decides.{nat_tests}
 use Rattle.rn_text.specs.Segments.{begins_with, is_delimiter}
 use Rattle.rn_text.specs.Texts.{is_white}
 use Rattle.rn_text.proofs.Words.EqualLists.{cons_rest}
-use Rattle.rn_xml.specs.XmlCharacters.{IsReference, IsValue, IsAttValue, is_value_char}
+use Rattle.rn_xml.specs.XmlCharacters.{IsReference, IsValue, IsAttValue}
 use Rattle.rn_xml.specs.XmlCharacters as x
 use Rattle.rn_xml.proofs.Refusals.OneReading.FirstCharacters.{white_no_ampersand}
 use Rattle.rn_xml.proofs.Refusals.OneReading.References.{body_of, reference_once}
