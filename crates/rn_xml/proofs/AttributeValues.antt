@@ -1,4 +1,4 @@
--- Values of attributes, character by character.
+-- Values of attributes: what stands before them, and their characters.
 use Rattle.std.proofs.Common.{◌≡◌, ◌≢◌, ℕ, true, false, List, [], ◌∷◌, ◌++◌, refl, sym, ap, ◌∙◌, subst, arith, append_assoc, append-nil, Some, None}
 use Rattle.std.specs.Prelude.{◌==◌, ◌||◌, not, Option, option_to_list, MatchOption}
 use Rattle.std.specs.Str.{chars}
@@ -8,8 +8,9 @@ use Rattle.std.proofs.lemmas.Bool.Decides.{nat_tests}
 use Rattle.rn_text.specs.Characters.{is_xml_char}
 use Rattle.rn_text.specs.Segments.{begins_with, is_delimiter}
 use Rattle.rn_text.specs.Texts.{is_white}
-use Rattle.rn_xml.specs.XmlCharacters.{lines_of, IsReference, IsValue}
+use Rattle.rn_xml.specs.XmlCharacters.{lines_of, MaySpace, IsReference, IsValue}
 use Rattle.rn_xml.specs.XmlCharacters as x
+use Rattle.rn_xml.specs.XmlTags.{IsEq, equals}
 use Rattle.rn_xml.specs.inside.Pieces.{ContinuesValue, normal, is_inner}
 use Rattle.rn_xml.proofs.Sources.{inner_black, lines_step, inner_itself, normal_cases}
 
@@ -58,3 +59,11 @@ spaced quote c cs after (Some s) e white (is, lone) value behind h =
   where
     space : IsValue quote (normal c after ++ lines_of after) (32 ∷ value) behind
     space = normal_cases (λ n. IsValue quote (n ++ lines_of after) (32 ∷ value) behind) c after (λ r f. absurd (both_ways (begins_with (λ d. d == 10) after) (lone r) f)) (x.IsValue.white refl h) (x.IsValue.white white h)
+
+-- ---- before a value
+
+pub equals_read : (cs spaced behind_equals behind inside : List ℕ) (quote : ℕ) → MaySpace (lines_of cs) (lines_of spaced) → spaced ≡ 61 ∷ behind_equals → MaySpace (lines_of behind_equals) (lines_of behind) → behind ≡ quote ∷ inside
+    → is_inner quote ≡ true → IsEq (lines_of cs) (quote ∷ lines_of inside)
+equals_read cs spaced behind_equals behind inside quote s e t f i = equals
+    (subst (MaySpace (lines_of cs)) (ap lines_of e ∙ inner_itself 61 behind_equals refl) s)
+    (subst (MaySpace (lines_of behind_equals)) (ap lines_of f ∙ inner_itself quote inside i) t)

@@ -1,6 +1,6 @@
 -- Characters between tags, piece by piece.
 use Rattle.std.proofs.Common.{◌≡◌, ◌≢◌, ℕ, true, false, List, [], ◌∷◌, ◌++◌, inl, inr, refl, sym, ap, ◌∙◌, subst, arith, append_assoc, append-nil, Bor, Some, None}
-use Rattle.std.specs.Prelude.{◌==◌, ◌||◌, not, codes, Option, is_some, MatchOption, IfSome, Result, Ok, Err, IfOk}
+use Rattle.std.specs.Prelude.{◌==◌, ◌||◌, not, codes, Option, is_some, MatchOption, Result, Ok, Err, IfOk}
 use Rattle.std.specs.Str.{chars}
 use Rattle.std.proofs.lemmas.Str.{chars-nil}
 use Rattle.std.proofs.lemmas.Bool.{and_from, false≢true}
@@ -48,7 +48,7 @@ piece_characters : (cs rest : List ℕ) → IsPiece cs rest → IsCharacters cs 
 piece_characters cs rest (inl h) = x.IsCharacters.comment h x.IsCharacters.none
 piece_characters cs rest (inr h) = x.IsCharacters.instruction h x.IsCharacters.none
 
-piece_answer : (old new cs : List ℕ) (r : Option (Bor (List ℕ))) → new ≡ old → IfSome r (λ rest. IsPiece cs (lines_of (chars rest.now))) → MatchOption r (new ≡ old) (λ rest. Appends old new (λ added. IsCharacters cs added (lines_of (chars rest.now))))
+piece_answer : (old new cs : List ℕ) (r : Option (Bor (List ℕ))) → new ≡ old → MatchOption r ((rest : List ℕ) → ¬ IsPiece cs rest) (λ rest. IsPiece cs (lines_of (chars rest.now))) → MatchOption r (new ≡ old) (λ rest. Appends old new (λ added. IsCharacters cs added (lines_of (chars rest.now))))
 piece_answer old new cs None e h = e
 piece_answer old new cs (Some rest) e h = ([], ap chars e ∙ sym (append-nil (chars old)), piece_characters cs (lines_of (chars rest.now)) h)
 
@@ -70,7 +70,7 @@ absent_other c after other behind f = other (let first : c ≡ 93 = cc in first)
 
 -- ---- answers
 
-pub piece_result : {E : Type 0} (old new cs : List ℕ) (r : Result (Option (Bor (List ℕ))) E) → new ≡ old → IfOk r (λ found. IfSome found (λ rest. IsPiece cs (lines_of (chars rest.now))))
+pub piece_result : {E : Type 0} (old new cs : List ℕ) (r : Result (Option (Bor (List ℕ))) E) → new ≡ old → IfOk r (λ found. MatchOption found ((rest : List ℕ) → ¬ IsPiece cs rest) (λ rest. IsPiece cs (lines_of (chars rest.now))))
     → IfOk r (λ found. MatchOption found (new ≡ old) (λ rest. Appends old new (λ added. IsCharacters cs added (lines_of (chars rest.now)))))
 piece_result old new cs (Ok found) e h = piece_answer old new cs found e h
 piece_result old new cs (Err k) e h = tt

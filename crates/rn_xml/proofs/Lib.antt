@@ -5,7 +5,6 @@ pub mod PushedCharacters
 pub mod Numbers
 pub mod QNames
 pub mod AttributeValues
-pub mod OpenedValues
 pub mod Decoding
 pub mod UpToEnds
 pub mod MarkupPieces
@@ -22,3 +21,4 @@ pub mod ScopeMeans
 pub mod RowReads
 pub mod TableGrowth
 pub mod WholeDocuments
+pub mod Refusals

@@ -1,13 +1,14 @@
 -- Comments, processing instructions and CDATA sections, by the characters up to their ends.
-use Rattle.std.proofs.Common.{◌≡◌, ◌<◌, ℕ, Bool, true, false, List, [], ◌∷◌, ◌++◌, inl, inr, refl, sym, ap, ◌∙◌, subst, arith, append-nil, lit<}
-use Rattle.std.specs.Prelude.{◌⊎◌, ◌↔◌, codes, map, IsTrue, encode_utf8}
+use Rattle.std.proofs.Common.{◌≡◌, ◌<◌, ◌+◌, ℕ, Bool, true, false, cond, length, ⊎_elim, List, [], ◌∷◌, ◌++◌, inl, inr, refl, sym, ap, ◌∙◌, subst, arith, append-nil, lit<}
+use Rattle.std.specs.Prelude.{◌⊎◌, ◌↔◌, codes, map, nat_lt, IsTrue, encode_utf8}
 use Rattle.std.specs.Char.{to_ascii_lowercase}
 use Rattle.std.specs.List.{list_all}
 use Rattle.std.specs.Str.{IsUtf8, chars, encode_utf8_all}
 use Rattle.std.proofs.lemmas.Bool.{iff_false, false≢true}
-use Rattle.std.proofs.lemmas.Str.{encodes-chars, encode_ascii}
+use Rattle.std.proofs.lemmas.Str.{encodes-chars, encodes_same, encode_ascii}
 use Rattle.rn_text.specs.Characters.{is_xml_char, is_ncname}
 use Rattle.rn_text.specs.Texts.{is_white}
+use Rattle.rn_text.proofs.Words.EqualLists.{cons_first, cons_rest}
 use Rattle.rn_xml.specs.XmlCharacters.{lines_of, MaySpace, IsSpace, IsComment, IsTarget, IsInstruction, AreMisc, IsSection, Lacks}
 use Rattle.rn_xml.specs.XmlCharacters as x
 use Rattle.rn_xml.specs.inside.Pieces.{IsPiece, IsUpTo, here, further, Appends}
@@ -53,6 +54,33 @@ spelled name a b c u e ha hb hc =
 -- a name that isn't `xml` in any case
 pub target : (name : List ℕ) (b : Bool) → IsUtf8 name → is_ncname (chars name) ≡ true → IsTrue b ↔ (map to_ascii_lowercase name ≡ map to_ascii_lowercase (codes "xml")) → b ≡ false → IsTarget (chars name)
 target name b u n test other = record { is_name = n; not_reserved = λ x m l hx hm hl e. iff_false test other (spelled name x m l u e hx hm hl) }
+
+-- `xml` in any case isn't allowed
+lower_cases : (c : ℕ) → (to_ascii_lowercase c ≡ c) ⊎ (to_ascii_lowercase c ≡ c + 32)
+lower_cases c = pick (nat_lt c 65) (nat_lt c 91)
+  where
+    pick : (a b : Bool) → (cond a c (cond b (c + 32) c) ≡ c) ⊎ (cond a c (cond b (c + 32) c) ≡ c + 32)
+    pick true b = inl refl
+    pick false true = inr refl
+    pick false false = inl refl
+
+either_case : (c low up : ℕ) → low ≡ up + 32 → to_ascii_lowercase c ≡ low → (c ≡ up) ⊎ (c ≡ low)
+either_case c low up apart e = ⊎_elim (λ same. inr (sym same ∙ e)) (λ more. let sum : c + 32 ≡ up + 32 = sym more ∙ e ∙ apart in inl (omega arith)) (lower_cases c)
+
+pub no_target : (name : List ℕ) (b : Bool) → IsUtf8 name → IsTrue b ↔ (map to_ascii_lowercase name ≡ map to_ascii_lowercase (codes "xml")) → b ≡ true → ¬ IsTarget (chars name)
+no_target name b u test is t = at name (test.0 is) refl
+  where
+    at : (bs : List ℕ) → map to_ascii_lowercase bs ≡ codes "xml" → name ≡ bs → ⊥
+    at [] e same = let l = ap (length {A = ℕ}) e in absurd (omega arith)
+    at (a ∷ []) e same = let l = ap (length {A = ℕ}) e in absurd (omega arith)
+    at (a ∷ b ∷ []) e same = let l = ap (length {A = ℕ}) e in absurd (omega arith)
+    at (a ∷ b ∷ c ∷ []) e same =
+        let one = either_case a 120 88 refl (cons_first e) in
+        let two = either_case b 109 77 refl (cons_first (cons_rest e)) in
+        let three = either_case c 108 76 refl (cons_first (cons_rest (cons_rest e))) in
+        let bytes = three_encoded a b c (letter_small a 88 120 one (lit< tt) (lit< tt)) (letter_small b 77 109 two (lit< tt) (lit< tt)) (letter_small c 76 108 three (lit< tt) (lit< tt)) in
+        t.not_reserved a b c one two three (encodes_same (chars name) (a ∷ b ∷ c ∷ []) (encodes-chars name u ∙ same ∙ sym bytes))
+    at (a ∷ b ∷ c ∷ d ∷ ds) e same = let l = ap (length {A = ℕ}) e in absurd (omega arith)
 
 pub bare_read : (cs inside name rest after : List ℕ) → cs ≡ codes "<?" ++ inside → inside ≡ name ++ rest → rest ≡ codes "?>" ++ after → IsTarget name → IsInstruction (lines_of cs) (lines_of after)
 bare_read cs inside name rest after e f g t = subst (λ l. IsInstruction l (lines_of after)) (sym whole) (x.IsInstruction.bare name t)

@@ -1,10 +1,14 @@
 -- Attributes of a tag that get their namespaces.
-use Rattle.std.proofs.Common.{◌≡◌, ◌<◌, ◌≤◌, ◌+◌, ℕ, zero, suc, Bool, true, false, cond, List, [], ◌∷◌, ◌++◌, length, get_or, set, take, drop, refl, sym, ap, ◌∙◌, subst, arith, ⊎_elim, length-append, length-set, Some, None}
-use Rattle.std.specs.Prelude.{◌==◌, All, AllPairs, Option, map, slice_get, vec_len, bytes_eq, String, string_bytes, if◌then◌else◌, encode_utf8_all}
+use Rattle.std.proofs.Common.{◌≡◌, ◌<◌, ◌≤◌, ◌+◌, ℕ, zero, suc, Bool, true, false, cond, List, [], ◌∷◌, ◌++◌, length, get_or, set, take, drop, refl, sym, ap, ◌∙◌, subst, arith, ⊎_elim, inl, inr, length-append, length-set, Some, None}
+use Rattle.std.specs.Prelude.{◌==◌, ◌⊎◌, nat_lt, All, AllPairs, Option, map, slice_get, vec_len, bytes_eq, String, string_bytes, if◌then◌else◌, encode_utf8_all}
+use Rattle.std.specs.BTreeMap.{is_at}
 use Rattle.std.specs.BTreeSet.{BTreeSet}
+use Rattle.std.specs.List.{list_any}
+use Rattle.std.specs.Ordering.{is_eq, ordering_then}
+use Rattle.std.specs.declared.cmp.Ordering.TheVariants.{Less, Equal, Greater}
 use Rattle.std.specs.declared.alloc.Global.{Global}
 use Rattle.std.specs.Option.{option_map, option_map_or}
-use Rattle.std.proofs.lemmas.Bool.{both_ways, cases_Bool, cond-true, cond-false}
+use Rattle.std.proofs.lemmas.Bool.{both_ways, cases_Bool, cond-true, cond-false, eqb-true, false≢true}
 use Rattle.std.proofs.lemmas.List.{append_assoc, append-nil, take-append-drop, length-take-le, length-map, nil_from_length}
 use Rattle.std.proofs.lemmas.List.Elements.{All-push, All-append}
 use Rattle.std.proofs.lemmas.List.Quantifiers.{all_pairs_push}
@@ -23,9 +27,10 @@ use Rattle.rn_xml.specs.declared.tags.TagReader.{TagReader}
 use Rattle.rn_xml.specs.inside.KnownTexts.{index_in, uri_in_table, KnowsUris}
 use Rattle.rn_xml.specs.inside.OpenTables.{binding_at, Denotes}
 use Rattle.rn_xml.specs.inside.NamedRows.{KeepsTag, NamesRow, row_named}
-use Rattle.rn_xml.specs.inside.SeenPairs.{has_pair}
+use Rattle.rn_xml.specs.inside.SeenPairs.{has_pair, pair_cmp}
 use Rattle.rn_xml.specs.inside.TagTables.{HasAttributes, HasTag, attribute_index}
 use Rattle.rn_xml.specs.inside.WrittenAttributes.{Unnamed, unnamed_of, unnamed, unnamed_before}
+use Rattle.rn_xml.proofs.RowReads.{got_left, got_last}
 use Rattle.rn_xml.proofs.ScopeMeans.{equal_bytes, other_bytes, prefix_means}
 use Rattle.rn_xml.proofs.TagNames.{empty_text, some_text}
 use Rattle.rn_xml.proofs.TagSteps.{knows_same}
@@ -33,6 +38,26 @@ use Rattle.rn_xml.proofs.TagSteps.{knows_same}
 pub still : (a b x : Bool) → x ≡ cond a true b → b ≡ true → x ≡ true
 still true b x e h = e
 still false b x e h = e ∙ h
+
+-- pairs that compare equal are the same
+compared : (p q r s : Bool) → is_eq (ordering_then (cond p Less (cond q Equal Greater)) (cond r Less (cond s Equal Greater))) ≡ true → (q ≡ true) × (s ≡ true)
+compared true q r s e = absurd (false≢true e)
+compared false true true s e = absurd (false≢true e)
+compared false true false true e = (refl, refl)
+compared false true false false e = absurd (false≢true e)
+compared false false r s e = absurd (false≢true e)
+
+pub pair_only : (pair p : ℕ × ℕ) (b x : Bool) → x ≡ cond (is_at (pair_cmp pair) p) true b → x ≡ true → ((p.0 ≡ pair.0) × (p.1 ≡ pair.1)) ⊎ (b ≡ true)
+pair_only pair p b x e h = at (is_at (pair_cmp pair) p) refl e
+  where
+    at : (a : Bool) → is_at (pair_cmp pair) p ≡ a → x ≡ cond a true b → ((p.0 ≡ pair.0) × (p.1 ≡ pair.1)) ⊎ (b ≡ true)
+    at true same f =
+        let both = compared (nat_lt pair.0 p.0) (pair.0 == p.0) (nat_lt pair.1 p.1) (pair.1 == p.1) same in
+        inl (sym (eqb-true pair.0 p.0 both.0), sym (eqb-true pair.1 p.1 both.1))
+    at false same f = inr (sym f ∙ h)
+
+pub none_there : (seen : BTreeSet (ℕ × ℕ)) → seen.keys ≡ [] → (p : ℕ × ℕ) → has_pair seen p ≡ false
+none_there seen e p = ap (list_any (is_at (pair_cmp p))) e
 
 -- ---- a row within a list
 
@@ -69,6 +94,10 @@ AreOther a b = ¬ ((a.name.uri ≡ b.name.uri) × (a.name.local.now ≡ b.name.l
 abbrev pub IsSeen : TagReader → BTreeSet (ℕ × ℕ) → XmlAttribute → Type 0
 IsSeen r seen a = (l : ℕ) × (index_in r.locals a.name.local.now ≡ Some l) × (has_pair seen (a.name.uri, l) ≡ true)
 
+-- the pair is that of one of these rows
+abbrev pub IsOfRow : TagReader → List XmlAttribute → ℕ × ℕ → Type 0
+IsOfRow r named p = (k : ℕ) × (b : XmlAttribute) × (slice_get named k ≡ Some b) × (b.name.uri ≡ p.0) × (index_in r.locals b.name.local.now ≡ Some p.1)
+
 -- what the loop keeps
 pub record NamesUpTo (old new : TagReader) (first index : ℕ) (seen : BTreeSet (ℕ × ℕ)) : Type 0 where
   pub keeps : KeepsTag old new
@@ -84,9 +113,10 @@ pub record NamesUpTo (old new : TagReader) (first index : ℕ) (seen : BTreeSet 
   pub within : All (λ a. a.name.uri < vec_len old.tables.document.uris) named
   pub others : AllPairs AreOther named
   pub seen_all : All (IsSeen new seen) named
+  pub seen_only : (p : ℕ × ℕ) → has_pair seen p ≡ true → IsOfRow new named p
 
-pub names_none : (r : TagReader) (first : ℕ) (seen : BTreeSet (ℕ × ℕ)) → first ≤ length r.tables.document.attributes.items → NamesUpTo r r first first seen
-names_none r first seen low = record {
+pub names_none : (r : TagReader) (first : ℕ) (seen : BTreeSet (ℕ × ℕ)) → ((p : ℕ × ℕ) → has_pair seen p ≡ false) → first ≤ length r.tables.document.attributes.items → NamesUpTo r r first first seen
+names_none r first seen empty low = record {
   keeps = record { rest = refl; indices = refl; scopes = refl; opened = refl; len = refl; locals = λ q i h. h };
   front = take first r.tables.document.attributes.items;
   done = [];
@@ -100,9 +130,10 @@ names_none r first seen low = record {
   within = λ k d h. absurd (omega arith);
   others = λ i j d h g. absurd (omega arith);
   seen_all = λ k d h. absurd (omega arith);
+  seen_only = λ p h. absurd (both_ways (has_pair seen p) (empty p) h);
 }
 
-same_index : (old mid : TagReader) → KeepsTag old mid → (q : Text) → attribute_index mid q ≡ attribute_index old q
+pub same_index : (old mid : TagReader) → KeepsTag old mid → (q : Text) → attribute_index mid q ≡ attribute_index old q
 same_index old mid keeps q =
     ap (λ (d : XmlDocument). if length q == 0 then Some 0 else uri_at d.declarations.items mid.scopes q) keeps.rest ∙ ap (λ (s : Scopes). if length q == 0 then Some 0 else uri_at old.tables.document.declarations.items s q) keeps.scopes
 
@@ -149,10 +180,26 @@ names_more old mid new first index seen newer up step = record {
   seen_all = All-push (IsSeen new newer) up.named (row_named step.row step.uri)
       (λ k d h. let s = up.seen_all k d h in (s.0, step.keeps.locals (get_or up.named k d).name.local.now s.0 s.1, step.seen_still ((get_or up.named k d).name.uri, s.0) s.2))
       (step.local, step.known, step.seen_now);
+  seen_only = λ p h. ⊎_elim
+      (λ same. (length up.named, row_named step.row step.uri, got_last up.named (row_named step.row step.uri), sym same.0, step.known ∙ ap (λ n. Some n) (sym same.1)))
+      (λ was. let of = up.seen_only p was in (of.0, of.1, got_left up.named (row_named step.row step.uri ∷ []) of.0 of.1 of.2, of.3, step.keeps.locals of.1.name.local.now p.1 of.4))
+      (step.seen_only p h);
 }
   where
     at : IsRowAt (up.front ++ up.named) up.todo index step.row
     at = row_at (up.front ++ up.named) up.todo index step.row (omega (arith, length-append up.front up.named, named_length (attribute_index old) up.done up.named up.rows, up.starts, up.count)) (ap (λ l. slice_get l index) (sym up.are) ∙ step.there)
+
+got_seam : {X : Type 0} (xs : List X) (y : X) (ys : List X) → slice_get (xs ++ y ∷ ys) (length xs) ≡ Some y
+got_seam [] y ys = refl
+got_seam (x ∷ xs) y ys = got_seam xs y ys
+
+-- the next row, behind those that have their namespaces
+pub names_parted : (old mid : TagReader) (first index : ℕ) (seen : BTreeSet (ℕ × ℕ)) (up : NamesUpTo old mid first index seen) (row : XmlAttribute) → slice_get mid.tables.document.attributes.items index ≡ Some row
+    → slice_get (up.done ++ up.todo) (length up.done) ≡ Some row
+names_parted old mid first index seen up row there = ap (λ l. slice_get (up.done ++ l) (length up.done)) at.is ∙ got_seam up.done row at.rest
+  where
+    at : IsRowAt (up.front ++ up.named) up.todo index row
+    at = row_at (up.front ++ up.named) up.todo index row (omega (arith, length-append up.front up.named, named_length (attribute_index old) up.done up.named up.rows, up.starts, up.count)) (ap (λ l. slice_get l index) (sym up.are) ∙ there)
 
 pub row_count : (old new : TagReader) (index : ℕ) (seen newer : BTreeSet (ℕ × ℕ)) → NamesRow old new index seen newer → vec_len new.tables.document.attributes ≡ vec_len old.tables.document.attributes
 row_count old new index seen newer step =
@@ -188,7 +235,7 @@ names_are d scope means uris (a ∷ written) done named h e = by_cases (λ ds ns
         (x.AreNamed.named is (subst (λ n. attribute_uri scope n.prefix ≡ Some (uri_at_index d u)) first (uris b.name.prefix.now u m)) (others ds ns h behind))
 
 -- what the prefix of an attribute means
-attribute_means : (r : TagReader) (scope : Scope) → All MayBind scope → KnowsUris r.tables → ((q : Text) → Denotes (binding_at r.tables.document) q scope (around r.scopes q)) → (q : Text) (u : ℕ)
+pub attribute_means : (r : TagReader) (scope : Scope) → All MayBind scope → KnowsUris r.tables → ((q : Text) → Denotes (binding_at r.tables.document) q scope (around r.scopes q)) → (q : Text) (u : ℕ)
     → attribute_index r q ≡ Some u → attribute_uri scope q ≡ Some (uri_at_index r.tables.document u)
 attribute_means r scope may knows denotes q u m = ⊎_elim
     (λ empty.
@@ -234,6 +281,12 @@ unique_rows t (r ∷ rs) knows within others = λ i j d h g.
     (subst (λ (b : Attribute). ¬ (((attribute_of t.document (get_or (r ∷ rs) i r)).name.uri ≡ b.name.uri) × ((attribute_of t.document (get_or (r ∷ rs) i r)).name.local ≡ b.name.local))) (sym two)
     (other_names t knows (get_or (r ∷ rs) i r) (get_or (r ∷ rs) j r) (within i r before) (within j r inside) (others i j r h inside)))
 
+-- the rows of the tag are those that have their namespaces and those that haven't
+pub tag_parts : (r old new : TagReader) (outer : Scope) (first index declarations : ℕ) (written : List WrittenAttribute) (seen : BTreeSet (ℕ × ℕ)) (has : HasAttributes r old outer declarations written) → first ≡ vec_len r.tables.document.attributes
+    → (up : NamesUpTo old new first index seen) → (up.front ≡ r.tables.document.attributes.items) × (up.done ++ up.todo ≡ has.more_attributes)
+tag_parts r old new outer first index declarations written seen has is up =
+    append_parts up.front (up.done ++ up.todo) r.tables.document.attributes.items has.more_attributes (omega (arith, up.starts, r.tables.document.attributes.ok.0)) (sym up.were ∙ has.attributes)
+
 pub tag_named : (r old new : TagReader) (outer : Scope) (first index declarations : ℕ) (written : List WrittenAttribute) (seen : BTreeSet (ℕ × ℕ)) → HasAttributes r old outer declarations written → first ≡ vec_len r.tables.document.attributes
     → (first ≤ length old.tables.document.attributes.items → NamesUpTo old new first index seen) → length old.tables.document.attributes.items ≤ index → HasTag r new outer written
 tag_named r old new outer first index declarations written seen has is names all = named_tag (names low)
@@ -268,7 +321,7 @@ tag_named r old new outer first index declarations written seen has is names all
         nothing = nil_from_length up.todo (omega (arith, ap length up.were, length-append up.front (up.done ++ up.todo), length-append up.done up.todo, up.starts, up.count))
 
         parts : (up.front ≡ r.tables.document.attributes.items) × (up.done ++ up.todo ≡ has.more_attributes)
-        parts = append_parts up.front (up.done ++ up.todo) r.tables.document.attributes.items has.more_attributes (omega (arith, up.starts, r.tables.document.attributes.ok.0)) (sym up.were ∙ has.attributes)
+        parts = tag_parts r old new outer first index declarations written seen has is up
 
         knows : KnowsUris new.tables
         knows = knows_same old.tables new.tables (ap (λ (d : XmlDocument). d.uris) up.keeps.rest) up.keeps.indices has.knows

@@ -1,5 +1,5 @@
 -- Numbers of characters, and the digits that they are written with.
-use Rattle.std.proofs.Common.{◌≡◌, ◌≤◌, ◌<◌, ℕ, ◌+◌, ◌*◌, Bool, true, List, [], ◌∷◌, ◌++◌, length, refl, sym, ap, ◌∙◌, subst, arith, ⊎_elim, append_assoc, Bor}
+use Rattle.std.proofs.Common.{◌≡◌, ◌≢◌, ◌≤◌, ◌<◌, ℕ, ◌+◌, ◌*◌, Bool, true, List, [], ◌∷◌, ◌++◌, length, refl, sym, ap, ◌∙◌, subst, arith, ⊎_elim, append_assoc, Bor}
 use Rattle.std.specs.Prelude.{min, codes, Result, Ok, Err, IfOk}
 use Rattle.std.specs.Char.{digit_value, is_ascii, is_ascii_digit, is_ascii_hexdigit}
 use Rattle.std.specs.List.{list_all}
@@ -9,12 +9,12 @@ use Rattle.std.proofs.Math.Nat.{le-mul_of_pos_right}
 use Rattle.std.proofs.lemmas.Bool.{and_from, and_parts, cases_lt}
 use Rattle.std.proofs.lemmas.Bool.Decides.{nat_tests}
 use Rattle.std.proofs.lemmas.Int.Digits.{digits_value_push, digits_push}
-use Rattle.std.proofs.lemmas.Str.{encodes-chars}
+use Rattle.std.proofs.lemmas.Str.{encodes-chars, IsUtf8-from_ascii}
 use Rattle.rn_text.specs.Characters.{is_xml_char}
 use Rattle.rn_xml.specs.XmlCharacters.{lines_of, IsEntity, IsReference}
 use Rattle.rn_xml.specs.XmlCharacters as x
 use Rattle.rn_xml.specs.inside.Pieces.{IsNumber, is_inner}
-use Rattle.rn_xml.proofs.AsciiFronts.{ascii_chars}
+use Rattle.rn_xml.proofs.AsciiFronts.{ascii_bytes, ascii_chars}
 use Rattle.rn_xml.proofs.Sources.{inner_front, inner_itself}
 
 -- the largest number of 32 bits
@@ -113,8 +113,21 @@ entity_reference name text behind rest c e f n = subst (λ l. IsReference (38 �
 pub entity_of : (name text : List ℕ) (c : ℕ) → list_all is_ascii name ≡ true → text ≡ name → IsEntity name c → IsEntity (chars text) c
 entity_of name text c ascii e n = subst (λ l. IsEntity l c) (sym (ap chars e ∙ ascii_chars name ascii)) n
 
+pub named_by : (name text : List ℕ) → IsUtf8 text → list_all is_ascii name ≡ true → chars text ≡ name → text ≡ name
+named_by name text t ascii e = sym (encodes-chars text t) ∙ ap encode_utf8_all (e ∙ sym (ascii_chars name ascii)) ∙ encodes-chars name (IsUtf8-from_ascii name (ascii_bytes name ascii))
+
+pub no_entity : (text : List ℕ) → IsUtf8 text → text ≢ codes "amp" → text ≢ codes "lt" → text ≢ codes "gt" → text ≢ codes "apos" → text ≢ codes "quot" → (c : ℕ) → ¬ IsEntity (chars text) c
+no_entity text t amp lt gt apos quot c h = of (chars text) c h refl
+  where
+    of : (name : List ℕ) (c : ℕ) → IsEntity name c → chars text ≡ name → ⊥
+    of name c x.IsEntity.amp e = amp (named_by (codes "amp") text t refl e)
+    of name c x.IsEntity.lt e = lt (named_by (codes "lt") text t refl e)
+    of name c x.IsEntity.gt e = gt (named_by (codes "gt") text t refl e)
+    of name c x.IsEntity.apos e = apos (named_by (codes "apos") text t refl e)
+    of name c x.IsEntity.quot e = quot (named_by (codes "quot") text t refl e)
+
 -- a reference has no line end
-entity_inner : (name : List ℕ) (c : ℕ) → IsEntity name c → list_all is_inner name ≡ true
+pub entity_inner : (name : List ℕ) (c : ℕ) → IsEntity name c → list_all is_inner name ≡ true
 entity_inner name c x.IsEntity.amp = refl
 entity_inner name c x.IsEntity.lt = refl
 entity_inner name c x.IsEntity.gt = refl
@@ -125,10 +138,10 @@ pub all_pass_too : (p q : ℕ → Bool) → ((c : ℕ) → p c ≡ true → q c 
 all_pass_too p q f [] a = refl
 all_pass_too p q f (c ∷ cs) a = let both = and_parts (p c) (list_all p cs) a in and_from (q c) (list_all q cs) (f c both.0) (all_pass_too p q f cs both.1)
 
-digit_inner : (c : ℕ) → is_ascii_digit c ≡ true → is_inner c ≡ true
+pub digit_inner : (c : ℕ) → is_ascii_digit c ≡ true → is_inner c ≡ true
 digit_inner c h = grind (arith, nat_tests)
 
-hexdigit_inner : (c : ℕ) → is_ascii_hexdigit c ≡ true → is_inner c ≡ true
+pub hexdigit_inner : (c : ℕ) → is_ascii_hexdigit c ≡ true → is_inner c ≡ true
 hexdigit_inner c h = grind (arith, nat_tests)
 
 referred_lines : (front inside rest : List ℕ) → list_all is_inner front ≡ true → list_all is_inner inside ≡ true → lines_of (front ++ (inside ++ 59 ∷ rest)) ≡ front ++ (inside ++ 59 ∷ lines_of rest)

@@ -3,3 +3,4 @@ pub mod OpenReaders
 pub mod OpenSteps
 pub mod OpenChildren
 pub mod OpenRows
+pub mod OpenNeeds

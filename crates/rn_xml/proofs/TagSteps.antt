@@ -4,7 +4,7 @@ use Rattle.std.specs.Prelude.{◌≢◌, Option, String, All, map, slice_get, st
 use Rattle.std.specs.Option.{option_map, option_map_or}
 use Rattle.std.specs.declared.alloc.Global.{Global}
 use Rattle.std.proofs.lemmas.Bool.{cases_Bool, cond-true, cond-false}
-use Rattle.std.proofs.lemmas.Option.{none-some, slice_get-get_or}
+use Rattle.std.proofs.lemmas.Option.{none-some, slice_get-get_or, slice_get_within}
 use Rattle.std.proofs.lemmas.List.{append_assoc, append-nil, map-append}
 use Rattle.std.proofs.lemmas.List.Elements.{All-push}
 use Rattle.std.proofs.lemmas.List.Quantifiers.{all_pairs_push}
@@ -21,7 +21,7 @@ use Rattle.rn_xml.specs.declared.tables.Tables.{Tables}
 use Rattle.rn_xml.specs.declared.tags.TagReader.{TagReader}
 use Rattle.rn_xml.specs.inside.KnownTexts.{index_in, uri_in_table, KnowsUris}
 use Rattle.rn_xml.specs.inside.OpenTables.{binding_at, Denotes}
-use Rattle.rn_xml.specs.inside.TagTables.{HasAttributes, IsRecent}
+use Rattle.rn_xml.specs.inside.TagTables.{HasAttributes, IsBoundIn, IsRecent}
 use Rattle.rn_xml.specs.inside.WrittenAttributes.{Unnamed, unnamed_of, unnamed, unnamed_before, DeclaresAs, NamesAs}
 use Rattle.rn_xml.proofs.KnownUris.{uri_there}
 use Rattle.rn_xml.proofs.Openings.OpenRows.{NamesGrow, binding_grows}
@@ -41,7 +41,7 @@ knows_same old new uris indices knows =
       xml = at 1 ∙ knows.xml;
     }
 
-bindings_push : (written : List WrittenAttribute) (a : WrittenAttribute) → bindings (written ++ a ∷ []) ≡ bindings written ++ bindings (a ∷ [])
+pub bindings_push : (written : List WrittenAttribute) (a : WrittenAttribute) → bindings (written ++ a ∷ []) ≡ bindings written ++ bindings (a ∷ [])
 bindings_push [] a = refl
 bindings_push (x ∷ written) a = before (declared_prefix x) (bindings_push written a)
   where
@@ -56,6 +56,18 @@ unnamed_push (x ∷ written) a = before (declared_prefix x) (unnamed_push writte
     before : (o : Option (List ℕ)) → unnamed (written ++ a ∷ []) ≡ unnamed written ++ unnamed (a ∷ []) → unnamed_before x o (unnamed (written ++ a ∷ [])) ≡ unnamed_before x o (unnamed written) ++ unnamed (a ∷ [])
     before (Some p) e = e
     before None e = let one : Unnamed = record { prefix = encode_utf8_all x.prefix; local = encode_utf8_all x.local; value = encode_utf8_all x.value } in ap (λ l. one ∷ l) e
+
+-- what a prefix means is the index of a declaration that is there
+denoted_below : (d : XmlDocument) (q : Text) (s : Scope) (ns : List ℕ) (n : ℕ) → Denotes (binding_at d) q s ns → innermost ns ≡ Some n → n < length d.declarations.items
+denoted_below d q s ns n Denotes.nothing h = absurd (none-some n h)
+denoted_below d q s ns n (Denotes.other {scope = more} miss rest) h = denoted_below d q more ns n rest h
+denoted_below d q s ns n (Denotes.this {b = b} {scope = more} {ns = ms} m hit is rest) h =
+    let same : m ≡ n = let e : Some m ≡ Some n = sym (innermost_last ms m) ∙ h in cc in
+    subst (λ k. k < length d.declarations.items) same (there (slice_get d.declarations.items m) refl is)
+  where
+    there : (o : Option XmlDeclaration) → slice_get d.declarations.items m ≡ o → option_map (binding_of d) o ≡ Some b → m < length d.declarations.items
+    there None e none = absurd (none-some b none)
+    there (Some row) e some = slice_get_within d.declarations.items m row e
 
 -- the tag's first state
 pub starts_attributes : (r : TagReader) (outer : Scope) (first : ℕ) → first ≡ vec_len r.tables.document.declarations → KnowsUris r.tables → ((q : Text) → Denotes (binding_at r.tables.document) q outer (around r.scopes q))
@@ -79,6 +91,10 @@ starts_attributes r outer first starts knows denotes = record {
   may_bind = λ k d h. absurd (omega arith);
   distinct = λ i j d h g. absurd (omega arith);
   recent = λ k d h. absurd (omega arith);
+  only = λ q recent.
+      let below : recent.0 < length r.tables.document.declarations.items = denoted_below r.tables.document q outer (around r.scopes q) recent.0 (denotes q) recent.1 in
+      let low : first ≤ recent.0 = recent.2 in
+      absurd (omega (arith, starts, r.tables.document.declarations.ok.0));
 }
 
 -- an attribute that declares nothing comes behind
@@ -112,6 +128,7 @@ adds_attribute r old new outer first written a row has rest indices scopes opene
       may_bind = subst (All MayBind) (sym bound) has.may_bind;
       distinct = subst AreDistinct (sym bound) has.distinct;
       recent = subst (All (λ b. IsRecent new.scopes first b.prefix)) (sym bound) (subst (λ s. All (λ b. IsRecent s first b.prefix) (bindings written)) (sym scopes) has.recent);
+      only = λ q recent. subst (λ b. IsBoundIn b q) (sym bound) (has.only q (subst (λ s. IsRecent s first q) scopes recent));
     }
 
 binding_stays : (d new : XmlDocument) → NamesGrow d new → AreTables d → (n : ℕ) (b : Binding) → binding_at d n ≡ Some b → binding_at new n ≡ Some b
@@ -202,4 +219,10 @@ adds_declaration r old new outer first written a prefix uri row index more has r
           let apart : bytes_eq prefix c.prefix ≡ false = other_bytes prefix c.prefix (λ e. others c k (slice_get-get_or (bindings written) k d h) (sym e)) in
           (was.0, ap innermost (entered c.prefix ∙ cond-false (bytes_eq prefix c.prefix) (around old.scopes c.prefix ++ index ∷ []) (around old.scopes c.prefix) apart) ∙ was.1, was.2))
           here);
+      only = λ q recent. subst (λ (l : List Binding). IsBoundIn l q) (sym bound) (⊎_elim
+          (λ hit. (length (bindings written), b, got_last (bindings written) b, same_bytes prefix q hit))
+          (λ miss.
+          let was = has.only q (recent.0, ap innermost (sym (entered q ∙ cond-false (bytes_eq prefix q) (around old.scopes q ++ index ∷ []) (around old.scopes q) miss)) ∙ recent.1, recent.2) in
+          (was.0, was.1, got_left (bindings written) (b ∷ []) was.0 was.1 was.2, was.3))
+          (cases_Bool (bytes_eq prefix q)));
     }

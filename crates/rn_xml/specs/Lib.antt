@@ -1,4 +1,5 @@
 pub mod inside
+pub mod DocumentFaults
 pub mod DocumentTables
 pub mod DocumentTrees
 pub mod Encodings

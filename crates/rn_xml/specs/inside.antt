@@ -1,6 +1,7 @@
 -- What contracts of private functions speak of. No public contract cites it.
 pub mod Declared
 pub mod Fields
+pub mod Fronts
 pub mod KnownTexts
 pub mod NamedRows
 pub mod OpenElements

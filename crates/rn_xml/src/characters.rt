@@ -1,5 +1,5 @@
 // Characters, white space and names (XML 1.0 Fifth Edition, 2.2 and 2.3; Namespaces in XML 1.0, 4).
-ghost use Rattle.std.specs.Prelude.{◌≡◌, ◌==◌, ◌≢◌, ◌∷◌, ◌++◌, ◌<◌, ◌≤◌, List, ℕ, [], false, true, length, IfOk, IfSome, MatchOption};
+ghost use Rattle.std.specs.Prelude.{◌≡◌, ◌==◌, ◌≢◌, ◌∷◌, ◌++◌, ◌<◌, ◌≤◌, List, ℕ, [], false, true, length, IfErr, IfOk, IfSome, MatchOption};
 ghost use Rattle.std.specs.Char.{is_ascii};
 ghost use Rattle.std.specs.List.{list_all};
 ghost use Rattle.std.specs.Str.{chars, IsUtf8};
@@ -7,6 +7,7 @@ ghost use Rattle.rn_text.specs.Characters.{is_xml_char, is_ncname, is_name_char}
 ghost use Rattle.rn_text.specs.Segments.{after_run, begins_with, run_of};
 ghost use Rattle.rn_text.specs.Texts.{AnswersUtf8, LeavesUtf8, is_white};
 ghost use Rattle.rn_xml.specs.XmlCharacters.{IsSpace, MaySpace};
+ghost use Rattle.rn_xml.specs.inside.Fronts.{BeginsName, ends_name};
 ghost use Rattle.rn_xml.specs.inside.Pieces.{SplitsName};
 ghost use Rattle.rn_xml.specs.inside.Rests.{GoesOn, source};
 
@@ -112,8 +113,11 @@ pub(crate) fn split_ncname(text: &str) -> Option<(&str, &str)>
 pub(crate) fn split_qname(text: &str) -> Result<(QName<'_>, &str), Stop>
     ensures reads { GoesOn text.now result }
     ensures name { IfOk result (λ p. SplitsName (source text.now) p.0 (source p.1.now)) }
+    ensures ends { IfOk result (λ p. ends_name (source p.1.now) ≡ true) }
     ensures utf8 { IfOk result
         (λ p. IsUtf8 p.0.prefix.now × IsUtf8 p.0.local.now × IsUtf8 p.1.now) }
+    ensures refused { IfErr result (λ _. (written prefix local behind : List ℕ)
+        → ¬ BeginsName (source text.now) written prefix local behind) }
 {
     let wrong = Stop::before(text, XmlFaultKind::Name);
     let (first, rest) = split_ncname(text).ok_or(wrong)?;

@@ -1,13 +1,15 @@
 // The XML declaration (XML 1.0 Fifth Edition, productions 23 to 26, 32, 80 and 81).
 ghost use Rattle.std.specs.Char.{is_ascii, is_ascii_digit};
 ghost use Rattle.std.specs.List.{list_all};
-ghost use Rattle.std.specs.Prelude.{◌≡◌, ◌↔◌, ◌++◌, false, true, ◌<◌, length, EachIndex, IfOk, IfSome, IsTrue, MatchOption, codes, slice_index};
+ghost use Rattle.std.specs.Prelude.{◌≡◌, ◌↔◌, ◌∷◌, ◌++◌, ℕ, List, false, true, ◌<◌, length, EachIndex, IfErr, IfOk, IfSome, IsTrue, MatchOption, codes, slice_index};
 ghost use Rattle.std.specs.Str.{IsUtf8};
 ghost use Rattle.rn_text.specs.Segments.{begins_with};
 ghost use Rattle.rn_text.specs.Texts.{AnswersUtf8, is_white};
 ghost use Rattle.rn_xml.specs.XmlDocuments.{IsVersionNum, IsEncName, is_encoding_char, MayDeclareEncoding, MayBeStandalone, MayDeclare};
 ghost use Rattle.rn_xml.specs.Encodings.{NamesEncoding};
-ghost use Rattle.rn_xml.specs.inside.Declared.{IsOnlyField, LacksField, NamesNone, OpensNone};
+ghost use Rattle.rn_text.specs.Characters.{is_name_char};
+ghost use Rattle.rn_xml.specs.XmlCharacters.{AreMisc, MaySpace};
+ghost use Rattle.rn_xml.specs.inside.Declared.{ClosesDeclaration, EndsDeclaration, HasRoot, IsDeclaration, IsOnlyField, LacksField, NamesNone, OpensNone};
 ghost use Rattle.rn_xml.specs.inside.Rests.{IsNoLonger, IsShorter, MayGoPast, source};
 ghost use Rattle.rn_xml.specs.inside.Fields.{IsFieldOf};
 ghost use Rattle.rn_xml.specs.inside.Pieces.{IsNamedField, is_inner};
@@ -93,7 +95,7 @@ fn are_encoding_bytes(bytes: &[u8]) -> bool
 
 /// Whether the text may name an encoding (XML 1.0, production 81).
 fn is_encoding_name(text: &str) -> bool
-    ensures { result ≡ true → IsEncName (source text.now) }
+    ensures { result ≡ true ↔ IsEncName (source text.now) }
 {
     match text.as_bytes() {
         [first, rest @ ..] => first.is_ascii_alphabetic() && are_encoding_bytes(rest),
@@ -106,6 +108,9 @@ fn after_encoding(text: &str) -> Option<&str>
     ensures reads { IfSome result (IsNoLonger text.now) }
     ensures encoding { IfSome result
         (λ rest. MayDeclareEncoding (source text.now) (source rest.now)) }
+    ensures only { MatchOption result ((rest : List ℕ) → ¬ EndsDeclaration (source text.now) rest)
+        (λ left. (rest : List ℕ) → EndsDeclaration (source text.now) rest
+        → ClosesDeclaration (source left.now) rest) }
     ensures utf8 { AnswersUtf8 result }
 {
     match split_field(text, "encoding") {
@@ -120,6 +125,9 @@ fn after_standalone(text: &str) -> Option<&str>
     ensures reads { IfSome result (IsNoLonger text.now) }
     ensures standalone { IfSome result
         (λ rest. MayBeStandalone (source text.now) (source rest.now)) }
+    ensures only { MatchOption result ((rest : List ℕ) → ¬ ClosesDeclaration (source text.now) rest)
+        (λ left. (rest : List ℕ) → ClosesDeclaration (source text.now) rest
+        → MaySpace (source left.now) (63 ∷ 62 ∷ rest)) }
     ensures utf8 { AnswersUtf8 result }
 {
     match split_field(text, "standalone") {
@@ -134,6 +142,7 @@ fn inside_declaration(text: &str) -> Option<&str>
     ensures reads { IfSome result (IsShorter text.now) }
     ensures front { MatchOption result (OpensNone (source text.now))
         (λ rest. source text.now ≡ codes "<?xml" ++ source rest.now) }
+    ensures ends { IfSome result (λ rest. begins_with is_name_char (source rest.now) ≡ false) }
     ensures utf8 { AnswersUtf8 result }
 {
     let inside = after_front(text, "<?xml")?;
@@ -149,6 +158,9 @@ fn after_inside(text: &str) -> Option<&str>
     ensures reads { IfSome result (IsShorter text.now) }
     ensures declared { IfSome result
         (λ rest. MayDeclare (codes "<?xml" ++ source text.now) (source rest.now)) }
+    ensures only { MatchOption result ((rest : List ℕ) → ¬ IsDeclaration (source text.now) rest)
+        (λ left. (rest : List ℕ) → IsDeclaration (source text.now) rest
+        → source left.now ≡ rest) }
     ensures utf8 { AnswersUtf8 result }
 {
     let version = split_field(text, "version")?;
@@ -165,6 +177,9 @@ fn after_inside(text: &str) -> Option<&str>
 pub(crate) fn after_declaration(text: &str) -> Result<&str, Stop>
     ensures reads { MayGoPast text.now result }
     ensures declared { IfOk result (λ rest. MayDeclare (source text.now) (source rest.now)) }
+    ensures only { IfOk result (λ left. (root : List ℕ) → HasRoot (source text.now) root
+        → AreMisc (source left.now) root) }
+    ensures refused { IfErr result (λ _. (root : List ℕ) → ¬ HasRoot (source text.now) root) }
     ensures utf8 { IfOk result (λ rest. IsUtf8 rest.now) }
 {
     let Some(inside) = inside_declaration(text) else {

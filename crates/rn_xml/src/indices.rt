@@ -1,7 +1,8 @@
 // Texts that are given indices, equal ones the same.
-ghost use Rattle.std.specs.Prelude.{◌≡◌, ℕ, Some, None, if◌then◌else◌, IfOk, OnOk, bytes_eq};
+ghost use Rattle.std.specs.Prelude.{◌≡◌, ◌+◌, ℕ, Some, None, if◌then◌else◌, IfOk, OnErr, OnOk, bytes_eq};
+ghost use Rattle.std.specs.BTreeMap.{btree_map_len};
 ghost use Rattle.rn_text.specs.Texts.{Text};
-ghost use Rattle.rn_xml.specs.inside.KnownTexts.{index_in};
+ghost use Rattle.rn_xml.specs.inside.KnownTexts.{AreApart, index_in};
 
 use std::alloc::{AllocError, Global};
 use std::collections::BTreeMap;
@@ -32,9 +33,12 @@ impl Indices {
 
     /// Gives the text this index.
     pub(crate) fn insert(&mut self, text: &str, index: usize) -> Result<(), AllocError>
-        ensures { OnOk result ((q : Text)
+        ensures ok { OnOk result ((q : Text)
             → index_in self.new q ≡
             (if bytes_eq text.now q then Some index else index_in self.old q)) }
+        ensures more { OnOk result (index_in self.old text.now ≡ None
+            → btree_map_len self.new.known ≡ btree_map_len self.old.known + 1) }
+        ensures err { OnErr result (self.new.known.entries ≡ self.old.known.entries) }
     {
         self.known
             .insert(String::from_str(self.alloc, text)?, index)?;
@@ -46,6 +50,7 @@ impl Indices {
         ensures found { IfOk result (λ index. index_in self.new text.now ≡ Some index) }
         ensures same { OnOk result ((q : Text) (i : ℕ) → index_in self.old q ≡ Some i
             → index_in self.new q ≡ Some i) }
+        ensures apart { AreApart self.old → AreApart self.new }
     {
         if let Some(index) = self.find(text) {
             return Ok(index);

@@ -1,10 +1,12 @@
 // Comments, processing instructions, CDATA sections and characters (XML 1.0 Fifth Edition, 2.4 to 2.7).
 ghost use Rattle.std.specs.Char.{is_ascii};
 ghost use Rattle.std.specs.List.{list_all};
-ghost use Rattle.std.specs.Prelude.{◌≡◌, ◌≢◌, ◌∷◌, ◌++◌, ℕ, List, true, false, None, codes, ◌<◌, ◌≤◌, length, string_bytes, string_len, IfOk, IfErr, IfSome, MatchOption};
+ghost use Rattle.std.specs.Prelude.{◌≡◌, ◌≢◌, ◌⊎◌, ◌∷◌, ◌++◌, ℕ, List, true, false, None, codes, ◌<◌, ◌≤◌, length, string_bytes, string_len, IfOk, IfErr, IfSome, IsNone, MatchOption};
 ghost use Rattle.std.specs.Str.{chars, IsUtf8};
 ghost use Rattle.rn_text.specs.Characters.{is_ncname};
-ghost use Rattle.rn_xml.specs.XmlCharacters.{IsTarget, IsComment, IsInstruction, AreMisc, IsSection, IsCharacters, is_data_char};
+ghost use Rattle.rn_xml.specs.XmlCharacters.{IsTarget, IsComment, IsInstruction, AreMisc, IsReference, IsSection, IsCharacters, is_data_char};
+ghost use Rattle.rn_xml.specs.DocumentFaults.{IsOfText};
+ghost use Rattle.rn_xml.specs.inside.Fronts.{IsBroken, IsBare, IsRootOrEnd, LacksMisc, ReachNoTag};
 ghost use Rattle.rn_xml.specs.inside.Pieces.{Appends, IsPiece, IsUpTo, is_inner, normal};
 ghost use Rattle.rn_xml.specs.inside.Rests.{GoesPast, GoesPastSome, MayGoPast, StopsWithin, source};
 
@@ -31,6 +33,8 @@ fn after_end<'a>(
     ensures reads { GoesPast whole.now result }
     ensures inside { IfOk result
         (λ rest. (inside : List ℕ) × IsUpTo end.now (source text.now) inside (source rest.now)) }
+    ensures refused { IfErr result (λ _. (inside rest : List ℕ)
+        → ¬ IsUpTo end.now (source text.now) inside rest) }
     ensures utf8 { IfOk result (λ rest. IsUtf8 rest.now) }
 {
     let mut rest = text;
@@ -50,7 +54,9 @@ fn after_end<'a>(
 pub(crate) fn after_comment(text: &str) -> Result<Option<&str>, Stop>
     ensures reads { GoesPastSome text.now result }
     ensures comment { IfOk result
-        (λ found. IfSome found (λ rest. IsComment (source text.now) (source rest.now))) }
+        (λ found. MatchOption found ((rest : List ℕ) → ¬ IsComment (source text.now) rest)
+        (λ rest. IsComment (source text.now) (source rest.now))) }
+    ensures refused { IfErr result (λ _. IsBroken (source text.now)) }
     ensures utf8 { IfOk result (λ found. IfSome found (λ rest. IsUtf8 rest.now)) }
 {
     let Some(inside) = after_front(text, "<!--") else {
@@ -64,7 +70,8 @@ pub(crate) fn after_comment(text: &str) -> Result<Option<&str>, Stop>
 /// Whether the name is one that no processing instruction has: `xml` in any case (XML 1.0, production 17).
 fn is_reserved(name: &str) -> bool
     requires { is_ncname (chars name.now) ≡ true }
-    ensures { result ≡ false → IsTarget (chars name.now) }
+    ensures target { result ≡ false → IsTarget (chars name.now) }
+    ensures reserved { result ≡ true → ¬ IsTarget (chars name.now) }
 {
     name.eq_ignore_ascii_case("xml")
 }
@@ -74,7 +81,9 @@ fn is_reserved(name: &str) -> bool
 pub(crate) fn after_instruction(text: &str) -> Result<Option<&str>, Stop>
     ensures reads { GoesPastSome text.now result }
     ensures instruction { IfOk result
-        (λ found. IfSome found (λ rest. IsInstruction (source text.now) (source rest.now))) }
+        (λ found. MatchOption found ((rest : List ℕ) → ¬ IsInstruction (source text.now) rest)
+        (λ rest. IsInstruction (source text.now) (source rest.now))) }
+    ensures refused { IfErr result (λ _. IsBroken (source text.now)) }
     ensures utf8 { IfOk result (λ found. IfSome found (λ rest. IsUtf8 rest.now)) }
 {
     let Some(inside) = after_front(text, "<?") else {
@@ -98,6 +107,9 @@ pub(crate) fn after_instruction(text: &str) -> Result<Option<&str>, Stop>
 pub(crate) fn after_misc(text: &str) -> Result<&str, Stop>
     ensures reads { MayGoPast text.now result }
     ensures misc { IfOk result (λ rest. AreMisc (source text.now) (source rest.now)) }
+    ensures all { IfOk result (λ rest. LacksMisc (source rest.now)) }
+    ensures refused { IfErr result (λ _. (rest : List ℕ) → AreMisc (source text.now) rest
+        → ¬ IsRootOrEnd rest) }
     ensures utf8 { IfOk result (λ rest. IsUtf8 rest.now) }
 {
     let mut rest = after_space(text);
@@ -111,7 +123,9 @@ pub(crate) fn after_misc(text: &str) -> Result<&str, Stop>
 fn after_piece(text: &str) -> Result<Option<&str>, Stop>
     ensures reads { GoesPastSome text.now result }
     ensures piece { IfOk result
-        (λ found. IfSome found (λ rest. IsPiece (source text.now) (source rest.now))) }
+        (λ found. MatchOption found ((rest : List ℕ) → ¬ IsPiece (source text.now) rest)
+        (λ rest. IsPiece (source text.now) (source rest.now))) }
+    ensures refused { IfErr result (λ _. IsBroken (source text.now)) }
     ensures utf8 { IfOk result (λ found. IfSome found (λ rest. IsUtf8 rest.now)) }
 {
     match after_comment(text)? {
@@ -142,6 +156,9 @@ fn read_section<'a>(text: &'a str, out: &mut String) -> Result<Option<&'a str>, 
         (λ found. MatchOption found (string_bytes out.new ≡ string_bytes out.old)
         (λ rest. Appends (string_bytes out.old) (string_bytes out.new)
         (λ inside. IsSection (source text.now) inside (source rest.now)))) }
+    ensures none { IfOk result (λ found. IsNone found
+        → (inside rest : List ℕ) → ¬ IsSection (source text.now) inside rest) }
+    ensures refused { IfErr result (λ stop. IsOfText stop.kind → IsBroken (source text.now)) }
     ensures utf8 { IfOk result (λ found. IfSome found (λ rest. IsUtf8 rest.now)) }
 {
     let Some(inside) = after_front(text, "<![CDATA[") else {
@@ -165,8 +182,10 @@ fn read_section<'a>(text: &'a str, out: &mut String) -> Result<Option<&'a str>, 
 fn wrong_character(c: char, after: &str) -> Option<XmlFaultKind>
     requires ampersand { c ≢ 38 }
     requires less_than { c ≢ 60 }
-    ensures { result ≡ None → (is_data_char c ≡ true)
+    ensures right { result ≡ None → (is_data_char c ≡ true)
         × ((behind : List ℕ) → c ∷ chars after.now ≢ codes "]]>" ++ behind) }
+    ensures wrong { IfSome result (λ _. (is_data_char c ≡ false)
+        ⊎ ((behind : List ℕ) × (c ∷ chars after.now ≡ codes "]]>" ++ behind))) }
 {
     if c == ']' && after_front(after, "]>").is_some() {
         return Some(XmlFaultKind::SectionEnd);
@@ -186,6 +205,7 @@ fn read_character(text: &str, c: char, after: &str, out: &mut String) -> Result<
     ensures reads { IfErr result (StopsWithin text.now) }
     ensures characters { IfOk result (λ _. Appends (string_bytes out.old) (string_bytes out.new)
         (λ added. IsCharacters (source text.now) added (source after.now))) }
+    ensures refused { IfErr result (λ stop. IsOfText stop.kind → ReachNoTag (source text.now)) }
 {
     if let Some(kind) = wrong_character(c, after) {
         return Err(Stop::before(text, kind));
@@ -199,6 +219,8 @@ fn read_reference<'a>(text: &'a str, out: &mut String) -> Result<&'a str, Stop>
     ensures reads { GoesPast text.now result }
     ensures characters { IfOk result (λ rest. Appends (string_bytes out.old) (string_bytes out.new)
         (λ added. IsCharacters (source text.now) added (source rest.now))) }
+    ensures refused { IfErr result (λ stop. IsOfText stop.kind → (c : ℕ) (rest : List ℕ)
+        → ¬ IsReference (source text.now) c rest) }
     ensures utf8 { IfOk result (λ rest. IsUtf8 rest.now) }
 {
     let (c, after) = split_reference(text)?;
@@ -214,7 +236,9 @@ fn read_run<'a>(text: &'a str, out: &mut String) -> Result<Option<&'a str>, Stop
         (λ found. MatchOption found (string_bytes out.new ≡ string_bytes out.old)
         (λ rest. Appends (string_bytes out.old) (string_bytes out.new)
         (λ added. IsCharacters (source text.now) added (source rest.now)))) }
+    ensures none { IfOk result (λ found. IsNone found → IsBare (source text.now)) }
     ensures utf8 { IfOk result (λ found. IfSome found (λ rest. IsUtf8 rest.now)) }
+    ensures refused { IfErr result (λ stop. IsOfText stop.kind → ReachNoTag (source text.now)) }
 {
     match split_char(text) {
         None => Ok(None),
@@ -235,10 +259,12 @@ fn read_run<'a>(text: &'a str, out: &mut String) -> Result<Option<&'a str>, Stop
 pub(crate) fn split_text(alloc: Global, text: &str) -> Result<(String, usize, &str), Stop>
     ensures characters { IfOk result
         (λ p. IsCharacters (source text.now) (chars (string_bytes p.0)) (source p.2.now)) }
+    ensures all { IfOk result (λ p. IsBare (source p.2.now)) }
     ensures utf8 { IfOk result (λ p. IsUtf8 p.2.now) }
     ensures left { IfOk result (λ p. (length p.2.now ≤ length text.now) × (p.1 ≤ length text.now)) }
     ensures start { IfOk result (λ p. 0 < string_len p.0 → length p.2.now < p.1) }
     ensures err { IfErr result (StopsWithin text.now) }
+    ensures refused { IfErr result (λ stop. IsOfText stop.kind → ReachNoTag (source text.now)) }
 {
     let mut content = String::new(alloc);
     let mut left = text.len();

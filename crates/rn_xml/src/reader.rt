@@ -1,7 +1,12 @@
 // A document, read from its text.
-ghost use Rattle.std.specs.Prelude.{◌≡◌, ◌⊎◌, ◌<◌, ◌≤◌, ℕ, List, [], Some, length, vec_len, IfErr, IfOk, IfSome, IsNone, OnOk};
+ghost use Rattle.std.specs.Prelude.{◌≡◌, ◌⊎◌, ◌<◌, ◌≤◌, ℕ, List, [], false, Some, length, vec_len, IfErr, IfOk, IfSome, IsNone, OnOk};
 ghost use Rattle.std.specs.Str.{IsUtf8, chars};
+ghost use Rattle.rn_xml.specs.DocumentFaults.{IsOfText};
 ghost use Rattle.rn_xml.specs.DocumentTrees.{IsReadFrom};
+ghost use Rattle.rn_xml.specs.Infoset.{Node};
+ghost use Rattle.rn_xml.specs.XmlDocuments.{IsXmlDocument};
+ghost use Rattle.rn_xml.specs.inside.Fronts.{opens_tag};
+ghost use Rattle.rn_xml.specs.inside.OpenElements.{LacksElement, Needs};
 ghost use Rattle.rn_xml.specs.PrefixScopes.{innermost};
 ghost use Rattle.rn_xml.specs.inside.ReadDocuments.{AreOpen, IsAtTag, IsReading, IsRootRead, place_of};
 ghost use Rattle.rn_xml.specs.DocumentTables.{AreTables};
@@ -21,6 +26,7 @@ use std::alloc::Global;
 fn unclosed(left: usize, rest: &str) -> Option<Stop>
     ensures ends { IfSome result (λ stop. (stop.left ≡ left) ⊎ (stop.left ≡ length rest.now)) }
     ensures more { IsNone result → 0 < length rest.now }
+    ensures no_tag { IfSome result (λ _. opens_tag (source rest.now) ≡ false) }
 {
     if rest.is_empty() {
         return Some(Stop {
@@ -36,7 +42,8 @@ fn unclosed(left: usize, rest: &str) -> Option<Stop>
 
 /// Why no root element begins here, if none does.
 fn no_root(rest: &str) -> Option<Stop>
-    ensures { IfSome result (StopsWithin rest.now) }
+    ensures place { IfSome result (StopsWithin rest.now) }
+    ensures no_tag { IfSome result (λ _. opens_tag (source rest.now) ≡ false) }
 {
     if rest.is_empty() {
         return Some(Stop::before(rest, XmlFaultKind::NoRoot));
@@ -69,6 +76,9 @@ fn read_text<'a>(reader: &mut TagReader<'a>, parent: usize, text: &'a str) -> Re
         → innermost reader.old.opened.items ≡ Some parent
         → IsReading cs reader.old text.now → IsAtTag cs reader.new parent tag.now) }
     ensures utf8 { IfOk result (λ tag. IsUtf8 tag.now) }
+    ensures refused { IfErr result (λ stop. IsOfText stop.kind → (cs : List ℕ)
+        → innermost reader.old.opened.items ≡ Some parent
+        → IsReading cs reader.old text.now → LacksElement cs) }
 {
     let (content, left, tag) = split_text(reader.alloc, text)?;
     if content.is_empty() {
@@ -89,6 +99,8 @@ fn read_piece<'a>(reader: &mut TagReader<'a>, parent: usize, text: &'a str) -> R
     ensures document { IfOk result (λ rest. (cs : List ℕ) → IsReading cs reader.old text.now
         → IsReading cs reader.new rest.now) }
     ensures utf8 { IfOk result (λ rest. IsUtf8 rest.now) }
+    ensures refused { IfErr result (λ stop. IsOfText stop.kind → (cs : List ℕ)
+        → IsReading cs reader.old text.now → LacksElement cs) }
 {
     let tag = read_text(reader, parent, text)?;
     if let Some(stop) = unclosed(reader.left_of(parent), tag) {
@@ -109,7 +121,12 @@ fn read_root<'a>(reader: &mut TagReader<'a>, text: &'a str) -> Result<&'a str, S
     ensures root { OnOk result (0 < element_count reader.new) }
     ensures document { IfOk result (λ rest. AreOpen reader.old [] (place_of reader.old text.now)
         → IsRootRead (source text.now) reader.new.tables.document (source rest.now)) }
+    ensures only { IfOk result (λ rest. AreOpen reader.old [] (place_of reader.old text.now)
+        → Needs (source text.now) [] (source rest.now)) }
     ensures utf8 { IfOk result (λ rest. IsUtf8 rest.now) }
+    ensures refused { IfErr result (λ stop. IsOfText stop.kind
+        → AreOpen reader.old [] (place_of reader.old text.now)
+        → LacksElement (source text.now)) }
 {
     let mut rest = reader.read_start_tag(text, None)?;
     while let Some(parent) = reader.innermost() {
@@ -124,6 +141,8 @@ fn read_whole<'a>(alloc: Global, text: &'a str) -> Result<XmlDocument<'a>, Stop>
     ensures root { IfOk result (λ document. 0 < vec_len document.elements) }
     ensures document { IfOk result (IsReadFrom (chars text.now)) }
     ensures err { IfErr result (StopsWithin text.now) }
+    ensures refused { IfErr result (λ stop. IsOfText stop.kind
+        → (root : Node) → ¬ IsXmlDocument (chars text.now) root) }
 {
     let prolog = after_declaration(text)?;
     let root = after_misc(prolog)?;
@@ -142,7 +161,7 @@ fn read_whole<'a>(alloc: Global, text: &'a str) -> Result<XmlDocument<'a>, Stop>
 /// The document that the text is (XML 1.0 Fifth Edition; Namespaces in XML 1.0). Refused at its first fault: where the
 /// text is not well-formed, has a document type declaration, or more than [`MAX_DEPTH`] elements are open, and wherever
 /// memory is. The names of a tag are faulty only if all of the tag is read: then first its own, and then those of its
-/// attributes in text order.
+/// attributes in text order. Where the fault is neither the depth nor memory, the text is no document.
 ///
 /// [`MAX_DEPTH`]: crate::MAX_DEPTH
 pub fn read_document<'a>(alloc: Global, text: &'a str) -> Result<XmlDocument<'a>, XmlFault>
@@ -150,6 +169,8 @@ pub fn read_document<'a>(alloc: Global, text: &'a str) -> Result<XmlDocument<'a>
     ensures root { IfOk result (λ document. 0 < vec_len document.elements) }
     ensures document { IfOk result (IsReadFrom (chars text.now)) }
     ensures err { IfErr result (λ fault. fault.at ≤ length text.now) }
+    ensures refused { IfErr result (λ fault. IsOfText fault.kind
+        → (root : Node) → ¬ IsXmlDocument (chars text.now) root) }
 {
     match read_whole(alloc, text) {
         Ok(document) => Ok(document),

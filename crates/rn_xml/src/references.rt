@@ -1,5 +1,5 @@
 // References to characters and to predefined entities (XML 1.0 Fifth Edition, 4.1 and 4.6).
-ghost use Rattle.std.specs.Prelude.{◌≡◌, ◌≤◌, ◌∷◌, true, IfOk, IfSome};
+ghost use Rattle.std.specs.Prelude.{◌≡◌, ◌≤◌, ◌∷◌, ℕ, List, false, true, IfErr, IfOk, MatchOption};
 ghost use Rattle.std.specs.Str.{chars, IsUtf8};
 ghost use Rattle.rn_text.specs.Characters.{is_xml_char};
 ghost use Rattle.rn_xml.specs.XmlCharacters.{IsEntity, IsReference};
@@ -12,7 +12,8 @@ use crate::xml_fault::XmlFaultKind;
 
 /// The character of a document that has this number (XML 1.0, 4.1, Legal Character).
 fn char_of(number: u32) -> Option<char>
-    ensures { IfSome result (λ c. (c ≡ number) × (is_xml_char c ≡ true)) }
+    ensures { MatchOption result (is_xml_char number ≡ false)
+        (λ c. (c ≡ number) × (is_xml_char c ≡ true)) }
 {
     let c = char::from_u32(number)?;
     if is_xml_char(c) { Some(c) } else { None }
@@ -24,6 +25,8 @@ fn split_number(text: &str, radix: u32) -> Result<(char, &str), XmlFaultKind>
     requires two { 2 ≤ radix }
     requires digits { radix ≤ 36 }
     ensures number { IfOk result (λ p. IsNumber radix (chars text.now) p.0 (chars p.1.now)) }
+    ensures refused { IfErr result (λ _. (c : ℕ) (rest : List ℕ)
+        → ¬ IsNumber radix (chars text.now) c rest) }
     ensures utf8 { IfOk result (λ p. IsUtf8 p.1.now) }
     ensures shorter { IfOk result (λ p. IsShorter text.now p.1) }
 {
@@ -45,14 +48,15 @@ fn split_number(text: &str, radix: u32) -> Result<(char, &str), XmlFaultKind>
 
 /// The character of the predefined entity of this name (XML 1.0, 4.6).
 fn entity_char(name: &str) -> Option<char>
-    ensures { IfSome result (IsEntity (chars name.now)) }
+    ensures { MatchOption result ((c : ℕ) → ¬ IsEntity (chars name.now) c)
+        (IsEntity (chars name.now)) }
 {
-    match name.as_bytes() {
-        b"amp" => Some('&'),
-        b"lt" => Some('<'),
-        b"gt" => Some('>'),
-        b"apos" => Some('\''),
-        b"quot" => Some('"'),
+    match name {
+        "amp" => Some('&'),
+        "lt" => Some('<'),
+        "gt" => Some('>'),
+        "apos" => Some('\''),
+        "quot" => Some('"'),
         _ => None,
     }
 }
@@ -60,6 +64,8 @@ fn entity_char(name: &str) -> Option<char>
 /// What a reference stands for, and what follows it; the text is what follows its `&`.
 fn split_target(text: &str) -> Result<(char, &str), XmlFaultKind>
     ensures reference { IfOk result (λ p. IsReference (38 ∷ chars text.now) p.0 (chars p.1.now)) }
+    ensures refused { IfErr result (λ _. (c : ℕ) (rest : List ℕ)
+        → ¬ IsReference (38 ∷ chars text.now) c rest) }
     ensures utf8 { IfOk result (λ p. IsUtf8 p.1.now) }
     ensures shorter { IfOk result (λ p. IsShorter text.now p.1) }
 {
@@ -79,6 +85,8 @@ fn split_target(text: &str) -> Result<(char, &str), XmlFaultKind>
 pub(crate) fn split_reference(text: &str) -> Result<(char, &str), Stop>
     ensures reads { GoesOn text.now result }
     ensures reference { IfOk result (λ p. IsReference (source text.now) p.0 (source p.1.now)) }
+    ensures refused { IfErr result (λ _. (c : ℕ) (rest : List ℕ)
+        → ¬ IsReference (source text.now) c rest) }
     ensures utf8 { IfOk result (λ p. IsUtf8 p.1.now) }
 {
     let target = after_char(text, '&').ok_or(Stop::before(text, XmlFaultKind::Reference))?;

@@ -1,5 +1,6 @@
 // Where a reader of a production stopped, and why.
 ghost use Rattle.std.specs.Prelude.{◌≡◌, length};
+ghost use Rattle.rn_xml.specs.declared.xml_fault.XmlFaultKind.TheVariants.{Memory};
 
 use crate::xml_fault::XmlFaultKind;
 use std::alloc::{AllocError, AllocFailed};
@@ -26,7 +27,7 @@ impl Stop {
 }
 
 impl From<AllocError> for Stop {
-    ghost from_gives = { λ _ stop. stop.left ≡ 0 };
+    ghost from_gives = { λ _ stop. (stop.left ≡ 0) × (stop.kind ≡ Memory) };
 
     fn from(_: AllocError) -> Self {
         Stop {
@@ -37,7 +38,7 @@ impl From<AllocError> for Stop {
 }
 
 impl<T: Drop> From<AllocFailed<T>> for Stop {
-    ghost from_gives = { λ _ stop. stop.left ≡ 0 };
+    ghost from_gives = { λ _ stop. (stop.left ≡ 0) × (stop.kind ≡ Memory) };
 
     fn from(_: AllocFailed<T>) -> Self {
         Stop {

@@ -1,16 +1,20 @@
 // Tags, and the namespaces that they declare (XML 1.0 Fifth Edition, 3.1; Namespaces in XML 1.0).
-ghost use Rattle.std.specs.Prelude.{◌≡◌, ◌∷◌, ◌-◌, [], Some, None, List, ℕ, true, false, not, if◌then◌else◌, ◌<◌, ◌≤◌, length, string_len, vec_len, All, IfErr, IfOk, IfSome, slice_get, MatchOption, MatchResult, OnOk, string_bytes};
+ghost use Rattle.std.specs.Prelude.{◌≡◌, ◌⊎◌, ◌∷◌, ◌++◌, ◌-◌, [], Some, None, List, ℕ, true, false, not, if◌then◌else◌, ◌<◌, ◌≤◌, length, string_len, vec_len, All, IfErr, IfOk, IfSome, slice_get, MatchOption, MatchResult, OnOk, string_bytes};
 ghost use Rattle.rn_xml.specs.inside.Parents.{MayHaveParent};
 ghost use Rattle.std.specs.Str.{IsUtf8, chars};
 ghost use Rattle.rn_text.specs.Segments.{is_delimiter};
 ghost use Rattle.rn_xml.specs.PrefixScopes.{around, innermost, IsLeft};
 ghost use Rattle.rn_xml.specs.TableRows.{rows_of};
 ghost use Rattle.rn_xml.specs.declared.document.XmlElement.{XmlElement as ElementRow};
-ghost use Rattle.rn_xml.specs.XmlTags.{IsEq, IsAttribute, WrittenAttribute, Scope, MayBind};
+ghost use Rattle.rn_xml.specs.XmlTags.{IsEq, IsAttribute, WrittenAttribute, Scope, MayBind, IsEndTag, bindings};
 ghost use Rattle.rn_xml.specs.XmlTags.{declared_prefix as declared_prefix_of};
 ghost use Rattle.rn_xml.specs.Infoset.{no_nodes};
 ghost use Rattle.rn_xml.specs.XmlDocuments.{with_characters};
-ghost use Rattle.rn_xml.specs.inside.OpenElements.{OpenElement, parent_of, finished, with_children, TakesElement, TakesEnd};
+ghost use Rattle.rn_xml.specs.inside.OpenElements.{OpenElement, LacksTag, NeedsElement, NeedsEnd, parent_of, scope_of, finished, with_children, TakesElement, TakesEnd};
+ghost use Rattle.rn_xml.specs.DocumentFaults.{IsOfText};
+ghost use Rattle.rn_xml.specs.declared.xml_fault.XmlFaultKind.TheVariants.{Memory};
+ghost use Rattle.rn_xml.specs.inside.Fronts.{closes_tag, ends_attributes};
+ghost use Rattle.rn_xml.specs.inside.KnownTexts.{AreApart};
 ghost use Rattle.rn_xml.specs.inside.Rests.{GoesOn, source};
 ghost use Rattle.rn_xml.specs.inside.SeenPairs.{has_pair};
 ghost use Rattle.rn_xml.specs.inside.WrittenAttributes.{AreSpacedAttributes, DeclaresAs, written_as};
@@ -42,6 +46,7 @@ pub(crate) struct TagReader<'a> {
     /// The elements that are open, the innermost last.
     opened: Vec<usize>,
     ghost open: { All (λ i. i < vec_len tables.document.elements) opened.items },
+    ghost apart: { AreApart locals },
 }
 
 /// The prefix that an attribute of this name declares, empty for the default namespace; none if it declares no namespace
@@ -65,7 +70,8 @@ fn declared_prefix(name: QName<'_>) -> Option<&str>
 
 /// Whether no prefix may mean this, or not this prefix (Namespaces in XML 1.0, 3 and 5).
 fn is_forbidden(prefix: &str, uri: &str) -> bool
-    ensures { result ≡ false → MayBind (record { prefix = prefix.now; uri = uri.now }) }
+    ensures allowed { result ≡ false → MayBind (record { prefix = prefix.now; uri = uri.now }) }
+    ensures forbidden { result ≡ true → ¬ MayBind (record { prefix = prefix.now; uri = uri.now }) }
 {
     prefix == "xmlns"
         || uri == XMLNS_URI
@@ -79,17 +85,28 @@ fn insert_pair(seen: &mut BTreeSet<(usize, usize)>, pair: (usize, usize)) -> Res
     ensures there { OnOk result (has_pair seen.new pair ≡ true) }
     ensures still { OnOk result ((p : ℕ × ℕ) → has_pair seen.old p ≡ true
         → has_pair seen.new p ≡ true) }
-    ensures err { IfErr result (λ stop. stop.left ≡ 0) }
+    ensures only { OnOk result ((p : ℕ × ℕ) → has_pair seen.new p ≡ true
+        → ((p.0 ≡ pair.0) × (p.1 ≡ pair.1)) ⊎ (has_pair seen.old p ≡ true)) }
+    ensures err { IfErr result (λ stop. (stop.left ≡ 0) × (stop.kind ≡ Memory)) }
 {
     Ok(seen.insert(pair)?)
 }
 
 /// Whether the name is written like this one.
 fn is_same_name(name: XmlName<'_>, written: QName<'_>) -> bool
-    ensures { result ≡ true → (name.entry.prefix.now ≡ written.entry.prefix.now)
+    ensures same { result ≡ true → (name.entry.prefix.now ≡ written.entry.prefix.now)
         × (name.entry.local.now ≡ written.entry.local.now) }
+    ensures other { name.entry.prefix.now ≡ written.entry.prefix.now
+        → name.entry.local.now ≡ written.entry.local.now → result ≡ true }
 {
     name.prefix == written.prefix && name.local == written.local
+}
+
+/// Whether the character may open and close a value (XML 1.0, production 10).
+fn is_quote(c: char) -> bool
+    ensures { result ≡ is_delimiter c }
+{
+    c == '"' || c == '\''
 }
 
 /// What follows the quote that opens a value, behind `=`, and the quote (XML 1.0, productions 10, 25 and 41).
@@ -97,14 +114,19 @@ fn split_opening(text: &str) -> Result<(char, &str), Stop>
     ensures reads { GoesOn text.now result }
     ensures quote { IfOk result (λ p. is_delimiter p.0 ≡ true) }
     ensures equals { IfOk result (λ p. IsEq (source text.now) (p.0 ∷ source p.1.now)) }
+    ensures refused { IfErr result (λ _. (quote : ℕ) (inside : List ℕ)
+        → is_delimiter quote ≡ true → ¬ IsEq (source text.now) (quote ∷ inside)) }
     ensures utf8 { IfOk result (λ p. IsUtf8 p.1.now) }
 {
     let spaced = after_space(text);
     let equals = after_char(spaced, '=').ok_or(Stop::before(spaced, XmlFaultKind::Equals))?;
     let behind = after_space(equals);
-    match split_char(behind) {
-        Some((quote, inside)) if quote == '"' || quote == '\'' => Ok((quote, inside)),
-        _ => Err(Stop::before(behind, XmlFaultKind::Quotes)),
+    let wrong = Stop::before(behind, XmlFaultKind::Quotes);
+    let (quote, inside) = split_char(behind).ok_or(wrong)?;
+    if is_quote(quote) {
+        Ok((quote, inside))
+    } else {
+        Err(wrong)
     }
 }
 
@@ -113,6 +135,7 @@ fn split_tag_end(text: &str) -> Result<(bool, &str), Stop>
     ensures reads { GoesOn text.now result }
     ensures end { IfOk result (λ p. source text.now ≡
         (if p.0 then 47 ∷ 62 ∷ source p.1.now else 62 ∷ source p.1.now)) }
+    ensures refused { IfErr result (λ _. closes_tag (source text.now) ≡ false) }
     ensures utf8 { IfOk result (λ p. IsUtf8 p.1.now) }
 {
     if let Some(after) = after_char(text, '>') {
@@ -127,8 +150,8 @@ fn split_tag_end(text: &str) -> Result<(bool, &str), Stop>
 impl<'a> TagReader<'a> {
     ghost use Rattle.rn_xml.specs.inside.Readers.{HasRoomFor, ReadsOn, MayReadOn, StopsIn, element_count, uri_count};
     ghost use Rattle.rn_xml.specs.inside.ReadDocuments.{AreOpen, IsClosed, IsReading, OpensTag, place_of};
-    ghost use Rattle.rn_xml.specs.inside.NamedRows.{NamesRow};
-    ghost use Rattle.rn_xml.specs.inside.TagTables.{Adds, HasAttributes, HasTag, attribute_index, uri_index};
+    ghost use Rattle.rn_xml.specs.inside.NamedRows.{CannotName, NamesRow};
+    ghost use Rattle.rn_xml.specs.inside.TagTables.{Adds, HasAttributes, HasTag, IsRecent, LackNames, LacksAttributes, NeverAdds, attribute_index, uri_index};
     ghost use Rattle.rn_xml.specs.declared.tags.TagReader.{TagReader};
 
     /// The reader of a text with this many bytes, before its first element.
@@ -149,8 +172,9 @@ impl<'a> TagReader<'a> {
 
     /// Whether the element whose declarations begin with this one declares the prefix.
     fn is_declared(&self, prefix: &str, first: usize) -> bool
-        ensures { result ≡ false → (n : ℕ) → innermost (around self.now.scopes prefix.now) ≡ Some n
-            → n < first }
+        ensures no { result ≡ false → (n : ℕ)
+            → innermost (around self.now.scopes prefix.now) ≡ Some n → n < first }
+        ensures yes { result ≡ true → IsRecent self.now.scopes first prefix.now }
     {
         match self.scopes.find(prefix) {
             Some(declaration) => declaration >= first,
@@ -166,6 +190,8 @@ impl<'a> TagReader<'a> {
         ensures elements { element_count self.new ≡ element_count self.old }
         ensures declared { OnOk result ((a : WrittenAttribute) → DeclaresAs a prefix.now uri.now
             → Adds self.old self.new first a) }
+        ensures refused { IfErr result (λ stop. IsOfText stop.kind → (a : WrittenAttribute)
+            → DeclaresAs a prefix.now uri.now → NeverAdds self.old first a) }
     {
         if is_forbidden(prefix, uri) {
             return Err(Stop::before(name, XmlFaultKind::Reserved));
@@ -191,6 +217,9 @@ impl<'a> TagReader<'a> {
             × IsAttribute (source text.now) a (source rest.now)
             × Adds self.old self.new first a) }
         ensures utf8 { IfOk result (λ rest. IsUtf8 rest.now) }
+        ensures refused { IfErr result (λ stop. IsOfText stop.kind
+            → (a : WrittenAttribute) (rest : List ℕ)
+            → IsAttribute (source text.now) a rest → NeverAdds self.old first a) }
     {
         let (name, rest) = split_qname(text)?;
         let (quote, inside) = split_opening(rest)?;
@@ -219,7 +248,11 @@ impl<'a> TagReader<'a> {
             → (written : List WrittenAttribute)
             × AreSpacedAttributes (source text.now) written (source rest.now)
             × HasAttributes self.old self.new outer first written) }
+        ensures ends { IfOk result (λ rest. ends_attributes (source rest.now) ≡ true) }
         ensures utf8 { IfOk result (λ rest. IsUtf8 rest.now) }
+        ensures refused { IfErr result (λ stop. IsOfText stop.kind → (outer : Scope)
+            → HasAttributes self.old self.old outer first []
+            → LacksAttributes (source text.now)) }
     {
         let mut rest = text;
         let mut spaced = after_space(rest);
@@ -241,6 +274,7 @@ impl<'a> TagReader<'a> {
     fn uri_of(&self, prefix: &str, left: usize) -> Result<usize, Stop>
         ensures ok { IfOk result (λ uri. uri < uri_count self.now) }
         ensures is { IfOk result (λ uri. uri_index self.now prefix.now ≡ Some uri) }
+        ensures none { IfErr result (λ _. uri_index self.now prefix.now ≡ None) }
         ensures err { IfErr result (λ stop. stop.left ≡ left) }
     {
         let kind = XmlFaultKind::Prefix;
@@ -253,6 +287,7 @@ impl<'a> TagReader<'a> {
     fn attribute_uri(&self, prefix: &str, left: usize) -> Result<usize, Stop>
         ensures ok { IfOk result (λ uri. uri < uri_count self.now) }
         ensures is { IfOk result (λ uri. attribute_index self.now prefix.now ≡ Some uri) }
+        ensures none { IfErr result (λ _. attribute_index self.now prefix.now ≡ None) }
         ensures err { IfErr result (λ stop. stop.left ≡ left) }
     {
         if prefix.is_empty() {
@@ -275,6 +310,8 @@ impl<'a> TagReader<'a> {
         ensures rest { self.new.tables.document ≡ record self.old.tables.document
             { attributes = self.new.tables.document.attributes } }
         ensures named { OnOk result (NamesRow self.old self.new index seen.old seen.new) }
+        ensures refused { IfErr result (λ stop. IsOfText stop.kind
+            → CannotName self.old self.new index seen.old) }
     {
         let Some((name, at)) = self.tables.attribute(index) else {
             return Ok(());
@@ -304,6 +341,11 @@ impl<'a> TagReader<'a> {
             → HasAttributes r self.old outer declarations written
             → first ≡ vec_len r.tables.document.attributes
             → HasTag r self.new outer written) }
+        ensures refused { IfErr result (λ stop. IsOfText stop.kind
+            → (r : TagReader) (outer : Scope) (declarations : ℕ) (written : List WrittenAttribute)
+            → HasAttributes r self.old outer declarations written
+            → first ≡ vec_len r.tables.document.attributes → All MayBind outer
+            → LackNames (bindings written ++ outer) written) }
     {
         let mut seen = BTreeSet::new(self.alloc);
         for index in first..self.tables.attribute_count() {
@@ -326,6 +368,9 @@ impl<'a> TagReader<'a> {
             → AreOpen self.old opened (place_of self.old tag.now)
             → parent ≡ parent_of opened → OpensTag self.old self.new opened tag.now p.1.now p.0) }
         ensures utf8 { IfOk result (λ p. IsUtf8 p.1.now) }
+        ensures refused { IfErr result (λ stop. IsOfText stop.kind → (opened : List OpenElement)
+            → AreOpen self.old opened (place_of self.old tag.now)
+            → LacksTag (scope_of opened) (source tag.now)) }
     {
         let inside = after_char(tag, '<').ok_or(Stop::before(tag, XmlFaultKind::Outside))?;
         let (name, rest) = split_qname(inside)?;
@@ -360,8 +405,12 @@ impl<'a> TagReader<'a> {
         ensures one { OnOk result (element_count self.old < element_count self.new) }
         ensures document { IfOk result (λ rest. (cs : List ℕ) (opened : List OpenElement)
             → AreOpen self.old opened (place_of self.old tag.now) → parent ≡ parent_of opened
-            → TakesElement cs opened (source tag.now) → IsReading cs self.new rest.now) }
+            → TakesElement cs opened (source tag.now) → NeedsElement cs opened (source tag.now)
+            → IsReading cs self.new rest.now) }
         ensures utf8 { IfOk result (λ rest. IsUtf8 rest.now) }
+        ensures refused { IfErr result (λ stop. IsOfText stop.kind → (opened : List OpenElement)
+            → AreOpen self.old opened (place_of self.old tag.now)
+            → LacksTag (scope_of opened) (source tag.now)) }
     {
         if self.opened.len() >= MAX_DEPTH {
             return Err(Stop::before(tag, XmlFaultKind::Deep));
@@ -392,6 +441,7 @@ impl<'a> TagReader<'a> {
         requires parent { parent < element_count self.old }
         requires some { 0 < string_len content }
         ensures err { IfErr result (StopsIn self.old) }
+        ensures memory { IfErr result (λ stop. stop.kind ≡ Memory) }
         ensures same { self.new.len ≡ self.old.len }
         ensures elements { element_count self.new ≡ element_count self.old }
         ensures opened { self.new.opened ≡ self.old.opened }
@@ -418,7 +468,9 @@ impl<'a> TagReader<'a> {
 
     /// The innermost element that is open, if one is.
     fn innermost_element(&self) -> Option<XmlElement<'a>>
-        ensures { IfSome result (λ row. (i : ℕ) × (innermost self.now.opened.items ≡ Some i)
+        ensures { MatchOption result ((i : ℕ) → innermost self.now.opened.items ≡ Some i
+            → slice_get self.now.tables.document.elements.items i ≡ None)
+            (λ row. (i : ℕ) × (innermost self.now.opened.items ≡ Some i)
             × (slice_get self.now.tables.document.elements.items i ≡ Some row)) }
     {
         let index = self.innermost()?;
@@ -469,9 +521,12 @@ impl<'a> TagReader<'a> {
         ensures document { IfOk result
             (λ rest. (cs : List ℕ) (e : OpenElement) (outer : List OpenElement)
             → AreOpen self.old (e ∷ outer) (place_of self.old tag.now)
-            → TakesEnd cs e outer (source tag.now)
+            → TakesEnd cs e outer (source tag.now) → NeedsEnd cs e outer (source tag.now)
             → IsReading cs self.new rest.now) }
         ensures utf8 { IfOk result (λ rest. IsUtf8 rest.now) }
+        ensures refused { IfErr result (λ _. (e : OpenElement) (outer : List OpenElement)
+            → AreOpen self.old (e ∷ outer) (place_of self.old tag.now)
+            → (rest : List ℕ) → ¬ IsEndTag e.qname (source tag.now) rest) }
     {
         let (name, rest) = split_qname(inside)?;
         let wrong = Stop::before(tag, XmlFaultKind::Outside);

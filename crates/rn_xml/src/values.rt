@@ -1,8 +1,10 @@
 // Values of attributes (XML 1.0 Fifth Edition, production 10, 2.11 and 3.3.3).
-ghost use Rattle.std.specs.Prelude.{◌≡◌, ◌≢◌, ◌∷◌, ◌++◌, ◌==◌, ℕ, false, true, string_bytes, option_to_list, IfOk, MatchOption};
+ghost use Rattle.std.specs.Prelude.{◌≡◌, ◌≢◌, ◌∷◌, ◌++◌, ◌==◌, ℕ, false, true, string_bytes, option_to_list, IfErr, IfOk, List, MatchOption};
 ghost use Rattle.std.specs.Str.{chars, IsUtf8};
 ghost use Rattle.rn_text.specs.Segments.{begins_with, is_delimiter};
 ghost use Rattle.rn_xml.specs.XmlCharacters.{IsValue};
+ghost use Rattle.rn_xml.specs.DocumentFaults.{IsOfText};
+ghost use Rattle.rn_xml.specs.inside.Fronts.{LeavesValue};
 ghost use Rattle.rn_xml.specs.inside.Pieces.{ContinuesValue};
 ghost use Rattle.rn_xml.specs.inside.Rests.{GoesOn, source};
 
@@ -35,7 +37,11 @@ fn split_value_char<'a>(
     ensures value { IfOk result
         (λ p. (quote : ℕ) → c ≢ quote → ContinuesValue quote (source rest.now) p.0
         (source p.1.now)) }
+    ensures leaves { IfOk result (λ p. (quote : ℕ) → is_delimiter quote ≡ true → c ≢ quote
+        → LeavesValue quote (source rest.now) (source p.1.now)) }
     ensures utf8 { IfOk result (λ p. IsUtf8 p.1.now) }
+    ensures refused { IfErr result (λ _. (quote : ℕ) → is_delimiter quote ≡ true → c ≢ quote
+        → (value behind : List ℕ) → ¬ IsValue quote (source rest.now) value behind) }
 {
     if c == '&' {
         let (c, after) = split_reference(rest)?;
@@ -70,6 +76,8 @@ pub(crate) fn split_value(alloc: Global, text: &str, quote: char) -> Result<(Str
     ensures reads { GoesOn text.now result }
     ensures value { IfOk result
         (λ p. IsValue quote (source text.now) (chars (string_bytes p.0)) (source p.1.now)) }
+    ensures refused { IfErr result (λ stop. IsOfText stop.kind
+        → (value rest : List ℕ) → ¬ IsValue quote (source text.now) value rest) }
     ensures utf8 { IfOk result (λ p. IsUtf8 p.1.now) }
 {
     let mut value = String::new(alloc);

@@ -30,11 +30,11 @@ all_tail : (p : ℕ → Bool) (c : ℕ) (cs : List ℕ) → list_all p (c ∷ cs
 all_tail p c cs h = (and_parts _ _ h).1
 
 -- white space ends where something else follows it
-white_run : (xs r : List ℕ) (c : ℕ) → is_white c ≡ false → MaySpace xs (c ∷ r) → after_run is_white xs ≡ c ∷ r
+pub white_run : (xs r : List ℕ) (c : ℕ) → is_white c ≡ false → MaySpace xs (c ∷ r) → after_run is_white xs ≡ c ∷ r
 white_run xs r c n x.MaySpace.none = after_run_stops is_white c r n
 white_run (e ∷ xs) r c n (x.MaySpace.white w m) = after_run_passes is_white e xs w ∙ white_run xs r c n m
 
-white_all : (xs : List ℕ) → MaySpace xs [] → after_run is_white xs ≡ []
+pub white_all : (xs : List ℕ) → MaySpace xs [] → after_run is_white xs ≡ []
 white_all [] x.MaySpace.none = refl
 white_all (e ∷ xs) (x.MaySpace.white w m) = after_run_passes is_white e xs w ∙ white_all xs m
 
@@ -123,25 +123,28 @@ field_read (n ∷ name) cs value rest some black inner f = equalled f.equals
           closes = o.closes;
         }
 
--- where the length of a text says that it begins with no white space
-pub no_white : (text rest : List ℕ) → IsUtf8 text → IsUtf8 rest → chars rest ≡ after_run is_white (chars text) → length rest ≡ length text → begins_with is_white (chars text) ≡ false
-no_white text rest t r run same = ⊎_elim (λ w. absurd (longer w)) (λ n. n) (cases_Bool (begins_with is_white (chars text)))
+-- where the length of a text says that it begins with no such character
+pub no_run : (p : ℕ → Bool) (text rest : List ℕ) → IsUtf8 text → IsUtf8 rest → chars rest ≡ after_run p (chars text) → length rest ≡ length text → begins_with p (chars text) ≡ false
+no_run p text rest t r run same = ⊎_elim (λ w. absurd (longer w)) (λ n. n) (cases_Bool (begins_with p (chars text)))
   where
     front : List ℕ
-    front = run_of is_white (chars text)
+    front = run_of p (chars text)
 
     split : text ≡ encode_utf8_all front ++ rest
-    split = bytes_split text rest front t r (sym (run_split is_white (chars text)) ∙ ap (λ l. front ++ l) (sym run))
+    split = bytes_split text rest front t r (sym (run_split p (chars text)) ∙ ap (λ l. front ++ l) (sym run))
 
-    some : (cs : List ℕ) → begins_with is_white cs ≡ true → 0 < length (run_of is_white cs)
+    some : (cs : List ℕ) → begins_with p cs ≡ true → 0 < length (run_of p cs)
     some [] w = absurd (false≢true w)
     some (c ∷ cs) w = rw w (omega arith)
 
-    longer : begins_with is_white (chars text) ≡ true → ⊥
+    longer : begins_with p (chars text) ≡ true → ⊥
     longer w = omega (arith, some (chars text) w, ap length split, length-append (encode_utf8_all front) rest, length-le-encodes front, same)
 
+pub no_white : (text rest : List ℕ) → IsUtf8 text → IsUtf8 rest → chars rest ≡ after_run is_white (chars text) → length rest ≡ length text → begins_with is_white (chars text) ≡ false
+no_white text rest t r run same = no_run is_white text rest t r run same
+
 -- a list is cut at the first of a kind in one way
-cut_once : (q : ℕ) (u r v s : List ℕ) → list_all (λ c. not (c == q)) u ≡ true → list_all (λ c. not (c == q)) v ≡ true → u ++ q ∷ r ≡ v ++ q ∷ s → (u ≡ v) × (r ≡ s)
+pub cut_once : (q : ℕ) (u r v s : List ℕ) → list_all (λ c. not (c == q)) u ≡ true → list_all (λ c. not (c == q)) v ≡ true → u ++ q ∷ r ≡ v ++ q ∷ s → (u ≡ v) × (r ≡ s)
 cut_once q [] r [] s a b e = (refl, cc)
 cut_once q [] r (d ∷ v) s a b e = let h : d ≡ q = cc in absurd (not_it d h (and_parts _ _ b).0)
   where

@@ -22,7 +22,7 @@ pub each_all : (p : ℕ → Bool) (bs : List ℕ) → EachIndex bs (λ k. p (get
 each_all p [] h = refl
 each_all p (b ∷ bs) h = both_true (h 0 (omega arith)) (each_all p bs (λ k below. h (suc k) (omega arith)))
 
-all_each : (p : ℕ → Bool) (bs : List ℕ) → list_all p bs ≡ true → EachIndex bs (λ k. p (get_or bs k 0) ≡ true)
+pub all_each : (p : ℕ → Bool) (bs : List ℕ) → list_all p bs ≡ true → EachIndex bs (λ k. p (get_or bs k 0) ≡ true)
 all_each p [] h k below = absurd (omega arith)
 all_each p (b ∷ bs) h zero below = (and_parts _ _ h).0
 all_each p (b ∷ bs) h (suc k) below = all_each p bs (and_parts _ _ h).1 k (omega arith)

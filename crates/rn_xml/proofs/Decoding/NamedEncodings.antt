@@ -43,7 +43,7 @@ unfolding is_name_char is_name_start
 return = refl
 
 -- no name goes on with white space
-white_stops : (c : ℕ) → is_white c ≡ true → is_name_char c ≡ false
+pub white_stops : (c : ℕ) → is_white c ≡ true → is_name_char c ≡ false
 white_stops c w = cases (c == 32) (c == 9) (c == 10) refl refl refl
   where
     last : (c == 32) ≡ false → (c == 9) ≡ false → (c == 10) ≡ false → c ≡ 13
@@ -74,7 +74,7 @@ no_front text n behind rest is space = front_absent (codes "<?xml") (chars text)
 digit_unquoted : (c : ℕ) → is_ascii_digit c ≡ true → is_unquoted c ≡ true
 digit_unquoted c h = grind (arith, nat_tests)
 
-unquoted_version : (number : List ℕ) → IsVersionNum number → list_all is_unquoted number ≡ true
+pub unquoted_version : (number : List ℕ) → IsVersionNum number → list_all is_unquoted number ≡ true
 unquoted_version number (d.IsVersionNum.number {digits = ds} some all) = all_pass_too is_ascii_digit is_unquoted digit_unquoted ds all
 
 -- what the front of a declaration is made of

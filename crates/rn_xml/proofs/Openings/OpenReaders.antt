@@ -25,7 +25,7 @@ use Rattle.rn_xml.specs.declared.document.XmlText.{XmlText}
 use Rattle.rn_xml.specs.declared.document.XmlDocument.{XmlDocument}
 use Rattle.rn_xml.specs.declared.tags.TagReader.{TagReader}
 use Rattle.rn_xml.specs.inside.KnownTexts.{KnowsUris}
-use Rattle.rn_xml.specs.inside.OpenElements.{OpenElement, Closes, TakesElement, finished, with_children, scope_of, rows_opened, parent_of}
+use Rattle.rn_xml.specs.inside.OpenElements.{OpenElement, Closes, Needs, NeedsElement, TakesElement, finished, with_children, scope_of, rows_opened, parent_of}
 use Rattle.rn_xml.specs.inside.OpenTables.{node_of, binding_at, Denotes, ArePlacedBefore, HoldsOpen}
 use Rattle.rn_xml.specs.inside.Pieces.{SplitsName}
 use Rattle.rn_xml.specs.inside.ReadDocuments.{AreOpen, IsClosed, IsReading, IsRootRead, IsAtTag, OpensTag, place_of}
@@ -33,6 +33,8 @@ use Rattle.rn_xml.specs.inside.Rests.{source}
 use Rattle.rn_xml.specs.inside.TagTables.{HasAttributes, HasTag, uri_index}
 use Rattle.rn_xml.specs.inside.WrittenAttributes.{AreSpacedAttributes}
 use Rattle.rn_xml.proofs.Openings.OpenChildren.{IsEnded, close_holds, text_holds, same_holds, with_text}
+use Rattle.rn_xml.specs.inside.Fronts.{IsBare}
+use Rattle.rn_xml.proofs.Openings.OpenNeeds.{text_needs, tag_needs, empty_tag_needs}
 use Rattle.rn_xml.proofs.Openings.OpenRows.{NamesGrow, open_holds}
 use Rattle.rn_xml.proofs.Openings.OpenSteps.{closed_reads, tag_reads, empty_tag_closes, text_takes_element, text_takes_end}
 use Rattle.rn_xml.proofs.RowReads.{got_cases, if_some, from_some, set_keeps, rows_behind}
@@ -108,9 +110,9 @@ closes_reader old new e outer place open_is rows indices rest elements left =
     }
 
 -- behind an element that has ended the reader reads on
-pub closed_reading : (cs : List ℕ) (r : TagReader) (outer : List OpenElement) (x : Node) (rest : Text) (place : ℕ) → place ≤ place_of r rest → Closes cs outer x (source rest) → IsClosed r outer x place → IsReading cs r rest
-closed_reading cs r [] x rest place low closes closed = IsReading.done closed.rows (x, closes, closed.holds)
-closed_reading cs r (g ∷ gs) x rest place low closes closed = IsReading.within (with_children g (more_nodes x no_nodes)) gs (closed_reads cs g gs x (source rest) closes) (record {
+pub closed_reading : (cs : List ℕ) (r : TagReader) (outer : List OpenElement) (x : Node) (rest : Text) (place : ℕ) → place ≤ place_of r rest → Closes cs outer x (source rest) → Needs cs outer (source rest) → IsClosed r outer x place → IsReading cs r rest
+closed_reading cs r [] x rest place low closes needs closed = IsReading.done closed.rows (x, closes, closed.holds) needs
+closed_reading cs r (g ∷ gs) x rest place low closes needs closed = IsReading.within (with_children g (more_nodes x no_nodes)) gs (closed_reads cs g gs x (source rest) closes) needs (record {
   holds = closed.holds;
   rows = closed.rows;
   denotes = closed.denotes;
@@ -168,22 +170,34 @@ qname_same (IsQName.unprefixed x) (IsQName.prefixed y z) = absurd (empty_name y)
 qname_same (IsQName.prefixed x y) (IsQName.unprefixed z) = absurd (empty_name x)
 qname_same (IsQName.prefixed x y) (IsQName.prefixed z w) = refl
 
+-- the innermost element has a row
+pub innermost_there : (r : TagReader) (e : OpenElement) (outer : List OpenElement) (place : ℕ) → AreOpen r (e ∷ outer) place → ((i : ℕ) → innermost r.opened.items ≡ Some i → slice_get r.tables.document.elements.items i ≡ None) → ⊥
+innermost_there r e outer place open_is none =
+    none-some open_is.holds.0.row (sym (none e.index (ap innermost open_is.rows ∙ innermost_last (rows_opened outer) e.index)) ∙ open_is.holds.0.there)
+
+-- and that has its name
+pub innermost_named : (r : TagReader) (e : OpenElement) (outer : List OpenElement) (place : ℕ) (row : XmlElement) → AreOpen r (e ∷ outer) place
+    → (i : ℕ) × (innermost r.opened.items ≡ Some i) × (slice_get r.tables.document.elements.items i ≡ Some row) → (row.name.prefix.now ≡ e.name.prefix) × (row.name.local.now ≡ e.name.local)
+innermost_named r e outer place row open_is found =
+    let index : found.0 ≡ e.index = let h : Some found.0 ≡ Some e.index = sym found.1 ∙ ap innermost open_is.rows ∙ innermost_last (rows_opened outer) e.index in cc in
+    let mine : XmlElement = open_is.holds.0.row in
+    let is_mine : row ≡ mine = let h : Some row ≡ Some mine = sym found.2 ∙ ap (λ i. slice_get r.tables.document.elements.items i) index ∙ open_is.holds.0.there in cc in
+    let names : name_of r.tables.document mine.name ≡ e.name =
+    let h : node_of r.tables.document mine no_nodes ≡ element e.name e.bound e.attributes no_nodes = open_is.holds.0.is no_nodes in cc in
+    (ap (λ (x : XmlElement). x.name.prefix.now) is_mine ∙ ap (λ (x : Name). x.prefix) names, ap (λ (x : XmlElement). x.name.local.now) is_mine ∙ ap (λ (x : Name). x.local) names)
+
 -- an end tag with the name of the innermost element
 pub ends_tag : (r : TagReader) (e : OpenElement) (outer : List OpenElement) (place : ℕ) (row : XmlElement) (name : QName) (tag inside rest fin after : Text) → AreOpen r (e ∷ outer) place
     → (i : ℕ) × (innermost r.opened.items ≡ Some i) × (slice_get r.tables.document.elements.items i ≡ Some row) → SplitsName (source inside) name (source rest)
     → row.name.prefix.now ≡ name.prefix.now → row.name.local.now ≡ name.local.now → chars tag ≡ 60 ∷ 47 ∷ chars inside → MaySpace (source rest) (source fin) → chars fin ≡ 62 ∷ chars after
     → IsEndTag e.qname (source tag) (source after)
 ends_tag r e outer place row name tag inside rest fin after open_is found splits same_prefix same_local front space close =
-    let index : found.0 ≡ e.index = let h : Some found.0 ≡ Some e.index = sym found.1 ∙ ap innermost open_is.rows ∙ innermost_last (rows_opened outer) e.index in cc in
-    let mine : XmlElement = open_is.holds.0.row in
-    let is_mine : row ≡ mine = let h : Some row ≡ Some mine = sym found.2 ∙ ap (λ i. slice_get r.tables.document.elements.items i) index ∙ open_is.holds.0.there in cc in
-    let names : name_of r.tables.document mine.name ≡ e.name =
-    let h : node_of r.tables.document mine no_nodes ≡ element e.name e.bound e.attributes no_nodes = open_is.holds.0.is no_nodes in cc in
-    let prefix : name.prefix.now ≡ e.name.prefix = sym same_prefix ∙ ap (λ (x : XmlElement). x.name.prefix.now) is_mine ∙ ap (λ (x : Name). x.prefix) names in
-    let local : name.local.now ≡ e.name.local = sym same_local ∙ ap (λ (x : XmlElement). x.name.local.now) is_mine ∙ ap (λ (x : Name). x.local) names in
+    let mine = innermost_named r e outer place row open_is found in
+    let prefix : name.prefix.now ≡ e.name.prefix = sym same_prefix ∙ mine.0 in
+    let local : name.local.now ≡ e.name.local = sym same_local ∙ mine.1 in
     let written : IsQName splits.written (chars e.name.prefix) (chars e.name.local) =
     subst (λ p. IsQName splits.written (chars p) (chars e.name.local)) prefix (subst (λ l. IsQName splits.written (chars name.prefix.now) (chars l)) local splits.is_name) in
-    let qname : splits.written ≡ e.qname = qname_same written open_is.holds.0.named in
+    let qname : splits.written ≡ e.qname = qname_same written open_is.holds.0.named.0 in
     let is_tag : source tag ≡ 60 ∷ 47 ∷ (e.qname ++ source rest) = ap lines_of front ∙ ap (λ l. 60 ∷ 47 ∷ l) (splits.splits ∙ ap (λ q. q ++ source rest) qname) in
     subst (λ l. IsEndTag e.qname l (source after)) (sym is_tag) (IsEndTag.closes (subst (MaySpace (source rest)) (ap lines_of close) space))
 
@@ -268,7 +282,7 @@ opens_tag old r1 r2 new name opened tag inside rest fin after is_empty first uri
       none = refl;
       front = tag_front;
       opens = record {
-        holds = open_holds d n (place_of old tag) e opened row names elements_are texts_are (omega arith) old.tables.sound open_is.placed row_parent is refl is_named index_is refl open_is.holds;
+        holds = open_holds d n (place_of old tag) e opened row names elements_are texts_are (omega arith) old.tables.sound open_is.placed row_parent is refl (is_named, subst IsUtf8 (sym row_prefix) prefix_utf8, subst IsUtf8 (sym row_local) local_utf8) index_is refl open_is.holds;
         rows = opened_is ∙ ap (λ v. v.items ++ index ∷ []) tagged.opened ∙ ap (λ l. l ++ index ∷ []) open_is.rows;
         denotes = λ q. subst (λ s. Denotes (binding_at n) q (bound ++ outer) (around s q)) (sym scopes)
             (subst (λ (x : XmlDocument). Denotes (binding_at x) q (bound ++ outer) (around r2.scopes q)) (sym document) (tagged.denotes q));
@@ -285,24 +299,25 @@ opens_tag old r1 r2 new name opened tag inside rest fin after is_empty first uri
     }
 
 -- behind a start tag the reader reads on in its element
-pub tag_reading : (cs : List ℕ) (old new : TagReader) (opened : List OpenElement) (tag after : Text) → OpensTag old new opened tag after false → TakesElement cs opened (source tag) → IsReading cs new after
-tag_reading cs old new opened tag after opens takes = IsReading.within opens.e opened (tag_reads cs opens.e opened (source tag) (source after) takes opens.none opens.front) opens.opens
+pub tag_reading : (cs : List ℕ) (old new : TagReader) (opened : List OpenElement) (tag after : Text) → OpensTag old new opened tag after false → TakesElement cs opened (source tag) → NeedsElement cs opened (source tag) → IsReading cs new after
+tag_reading cs old new opened tag after opens takes needs =
+    IsReading.within opens.e opened (tag_reads cs opens.e opened (source tag) (source after) takes opens.none opens.front) (tag_needs cs opens.e opened (source tag) (source after) needs opens.front) opens.opens
 
 -- behind a tag without content it reads on around it
-pub empty_tag_reading : (cs : List ℕ) (old mid new : TagReader) (opened : List OpenElement) (tag after : Text) → OpensTag old mid opened tag after true → TakesElement cs opened (source tag) → new.len ≡ mid.len
+pub empty_tag_reading : (cs : List ℕ) (old mid new : TagReader) (opened : List OpenElement) (tag after : Text) → OpensTag old mid opened tag after true → TakesElement cs opened (source tag) → NeedsElement cs opened (source tag) → new.len ≡ mid.len
     → ((e : OpenElement) (outer : List OpenElement) (place : ℕ) → AreOpen mid (e ∷ outer) place → IsClosed new outer (finished e no_nodes) place) → IsReading cs new after
-empty_tag_reading cs old mid new opened tag after opens takes len closes =
+empty_tag_reading cs old mid new opened tag after opens takes needs len closes =
     let low : place_of mid after ≤ place_of new after = omega arith in
     closed_reading cs new opened (finished opens.e no_nodes) after (place_of mid after) low
-    (empty_tag_closes cs opens.e opened (source tag) (source after) takes opens.none opens.front) (closes opens.e opened (place_of mid after) opens.opens)
+    (empty_tag_closes cs opens.e opened (source tag) (source after) takes opens.none opens.front) (empty_tag_needs cs opens.e opened (source tag) (source after) needs opens.front) (closes opens.e opened (place_of mid after) opens.opens)
 
 no_innermost : (ns : List ℕ) (n : ℕ) → ns ≡ [] → innermost ns ≡ Some n → ⊥
 no_innermost ns n none h = none-some n (ap innermost (sym none) ∙ h)
 
 -- no characters come before the tag
-pub silent_at_tag : (cs : List ℕ) (r : TagReader) (parent : ℕ) (text tag : Text) (content : List ℕ) → content ≡ [] → IsCharacters (source text) content (source tag) → length tag ≤ length text
+pub silent_at_tag : (cs : List ℕ) (r : TagReader) (parent : ℕ) (text tag : Text) (content : List ℕ) → content ≡ [] → IsCharacters (source text) content (source tag) → IsBare (source tag) → length tag ≤ length text
     → innermost r.opened.items ≡ Some parent → IsReading cs r text → IsAtTag cs r parent tag
-silent_at_tag cs r parent text tag content silent is shorter last (IsReading.within e outer reads open_is) =
+silent_at_tag cs r parent text tag content silent is bare shorter last (IsReading.within e outer reads needs open_is) =
     let same : Some parent ≡ Some e.index = sym last ∙ ap innermost open_is.rows ∙ innermost_last (rows_opened outer) e.index in
     let none : IsCharacters (source text) [] (source tag) = subst (λ l. IsCharacters (source text) l (source tag)) silent is in
     record {
@@ -319,15 +334,17 @@ silent_at_tag cs r parent text tag content silent is shorter last (IsReading.wit
       };
       takes = text_takes_element cs e outer (source text) [] (source tag) reads none;
       ends = text_takes_end cs e outer (source text) [] (source tag) reads none;
+      needs = text_needs cs e outer (source text) content (source tag) needs is;
+      bare = bare;
     }
-silent_at_tag cs r parent text tag content silent is shorter last (IsReading.done rows root) = absurd (no_innermost r.opened.items parent rows last)
+silent_at_tag cs r parent text tag content silent is bare shorter last (IsReading.done rows root needs) = absurd (no_innermost r.opened.items parent rows last)
 
 -- some do, which are added
-pub text_at_tag : (cs : List ℕ) (old new : TagReader) (parent left : ℕ) (text tag : Text) (content : List ℕ) → IsCharacters (source text) content (source tag) → length tag < left → left ≤ length text → length text ≤ old.len
+pub text_at_tag : (cs : List ℕ) (old new : TagReader) (parent left : ℕ) (text tag : Text) (content : List ℕ) → IsCharacters (source text) content (source tag) → IsBare (source tag) → length tag < left → left ≤ length text → length text ≤ old.len
     → new.len ≡ old.len → innermost old.opened.items ≡ Some parent
     → ((e : OpenElement) (outer : List OpenElement) (place next : ℕ) → AreOpen old (e ∷ outer) place → parent ≡ e.index → place ≤ old.len - left → old.len - left < next
     → AreOpen new (with_children e (with_characters content no_nodes) ∷ outer) next) → IsReading cs old text → IsAtTag cs new parent tag
-text_at_tag cs old new parent left text tag content is behind within room len last adds (IsReading.within e outer reads open_is) =
+text_at_tag cs old new parent left text tag content is bare behind within room len last adds (IsReading.within e outer reads needs open_is) =
     let same : Some parent ≡ Some e.index = sym last ∙ ap innermost open_is.rows ∙ innermost_last (rows_opened outer) e.index in
     let is_parent : parent ≡ e.index = cc in
     record {
@@ -337,14 +354,22 @@ text_at_tag cs old new parent left text tag content is behind within room len la
       opens = adds e outer (place_of old text) (place_of new tag) open_is is_parent (omega arith) (omega arith);
       takes = text_takes_element cs e outer (source text) content (source tag) reads is;
       ends = text_takes_end cs e outer (source text) content (source tag) reads is;
+      needs = text_needs cs e outer (source text) content (source tag) needs is;
+      bare = bare;
     }
-text_at_tag cs old new parent left text tag content is behind within room len last adds (IsReading.done rows root) = absurd (no_innermost old.opened.items parent rows last)
+text_at_tag cs old new parent left text tag content is bare behind within room len last adds (IsReading.done rows root needs) = absurd (no_innermost old.opened.items parent rows last)
 
 -- where nothing is open any more, the root is read
 pub root_read : (cs : List ℕ) (r : TagReader) (rest : Text) → innermost r.opened.items ≡ None → IsReading cs r rest → IsRootRead cs r.tables.document (source rest)
-root_read cs r rest none (IsReading.within e outer reads open_is) =
+root_read cs r rest none (IsReading.within e outer reads needs open_is) =
     absurd (none-some e.index (sym none ∙ ap innermost open_is.rows ∙ innermost_last (rows_opened outer) e.index))
-root_read cs r rest none (IsReading.done rows root) = root
+root_read cs r rest none (IsReading.done rows root needs) = root
+
+-- and nothing else than that
+pub root_needs : (cs : List ℕ) (r : TagReader) (rest : Text) → innermost r.opened.items ≡ None → IsReading cs r rest → Needs cs [] (source rest)
+root_needs cs r rest none (IsReading.within e outer reads needs open_is) =
+    absurd (none-some e.index (sym none ∙ ap innermost open_is.rows ∙ innermost_last (rows_opened outer) e.index))
+root_needs cs r rest none (IsReading.done rows root needs) = needs
 
 -- an empty text has no characters
 pub no_characters : (s : String Global) → string_len s ≡ 0 → chars (string_bytes s) ≡ []

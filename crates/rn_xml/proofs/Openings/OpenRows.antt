@@ -8,7 +8,7 @@ use Rattle.std.specs.declared.alloc.Global.{Global}
 use Rattle.rn_text.specs.Texts.{Text}
 use Rattle.rn_xml.specs.Infoset.{Name, Binding, Attribute, Node, element, Nodes, no_nodes}
 use Rattle.rn_xml.specs.TableRows.{rows_of}
-use Rattle.std.specs.Str.{chars}
+use Rattle.std.specs.Str.{chars, IsUtf8}
 use Rattle.rn_xml.specs.XmlTags.{IsQName}
 use Rattle.rn_xml.specs.DocumentTables.{IsElementRow, AreTables}
 use Rattle.rn_xml.specs.DocumentTrees.{name_of, binding_of, attribute_of, uri_at_index, AreChildren}
@@ -109,7 +109,7 @@ no_row_there xs P n e = if_some P (slice_get xs n) (λ x h. absurd (let within :
 -- the row of a start tag comes behind
 pub open_holds : (d new : XmlDocument) (place : ℕ) (e : OpenElement) (opened : List OpenElement) (row : XmlElement) → NamesGrow d new
     → new.elements.items ≡ d.elements.items ++ row ∷ [] → new.texts.items ≡ d.texts.items → place ≤ row.at → AreTables d → ArePlacedBefore d place
-    → row.parent ≡ parent_of opened → ((k : Nodes) → node_of new row k ≡ element e.name e.bound e.attributes k) → e.children ≡ no_nodes → IsQName e.qname (chars e.name.prefix) (chars e.name.local)
+    → row.parent ≡ parent_of opened → ((k : Nodes) → node_of new row k ≡ element e.name e.bound e.attributes k) → e.children ≡ no_nodes → IsQName e.qname (chars e.name.prefix) (chars e.name.local) × IsUtf8 e.name.prefix × IsUtf8 e.name.local
     → e.index ≡ length d.elements.items → e.texts ≡ length d.texts.items
     → HoldsOpen d opened (length d.elements.items) (length d.texts.items) → HoldsOpen new (e ∷ opened) (length new.elements.items) (length new.texts.items)
 open_holds d new place e opened row names elements texts behind tables placed parent is none named index at_texts holds =

@@ -1,9 +1,11 @@
 -- The encoding that a text declares.
-use Rattle.std.specs.Prelude.{◌≡◌, ◌⊎◌, ℕ, Bool, true, not, List, ◌++◌, codes}
+use Rattle.std.specs.Prelude.{◌≡◌, ◌⊎◌, ℕ, Bool, true, not, List, ◌∷◌, ◌++◌, codes}
 use Rattle.std.specs.List.{list_all}
 use Rattle.rn_text.specs.Segments.{is_delimiter}
 use Rattle.rn_text.specs.Texts.{Text}
-use Rattle.rn_xml.specs.XmlCharacters.{IsSpace}
+use Rattle.rn_xml.specs.XmlCharacters.{MaySpace, IsSpace, AreMisc}
+use Rattle.rn_xml.specs.XmlDocuments.{IsVersionInfo, MayDeclareEncoding, MayBeStandalone, MayDeclare}
+use Rattle.rn_xml.specs.inside.Fronts.{opens_tag}
 use Rattle.rn_xml.specs.Encodings.{NamesEncoding, IsCalled}
 use Rattle.rn_xml.specs.inside.Pieces.{IsNamedField}
 use Rattle.rn_xml.specs.inside.Rests.{source}
@@ -38,3 +40,19 @@ IsOnlyField name cs value rest = (v r : List ℕ) → IsNamedField name cs v r �
 -- no XML declaration begins
 abbrev pub OpensNone : List ℕ → Type 0
 OpensNone cs = (behind rest : List ℕ) → cs ≡ codes "<?xml" ++ behind → ¬ IsSpace behind rest
+
+-- the end of an XML declaration, and before that whether it stands alone
+abbrev pub ClosesDeclaration : List ℕ → List ℕ → Type 0
+ClosesDeclaration cs rest = (behind : List ℕ) × MayBeStandalone cs behind × MaySpace behind (63 ∷ 62 ∷ rest)
+
+-- the same, and before that its encoding
+abbrev pub EndsDeclaration : List ℕ → List ℕ → Type 0
+EndsDeclaration cs rest = (after : List ℕ) × MayDeclareEncoding cs after × ClosesDeclaration after rest
+
+-- the same, and before that its version: all of it behind `<?xml`
+abbrev pub IsDeclaration : List ℕ → List ℕ → Type 0
+IsDeclaration cs rest = (mid : List ℕ) × IsVersionInfo cs mid × EndsDeclaration mid rest
+
+-- a root follows the XML declaration, if there is one, with comments and the like before it
+abbrev pub HasRoot : List ℕ → List ℕ → Type 0
+HasRoot cs root = (mid : List ℕ) × MayDeclare cs mid × AreMisc mid root × (opens_tag root ≡ true)

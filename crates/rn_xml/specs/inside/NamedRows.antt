@@ -1,5 +1,5 @@
 -- Rows of attributes that get their namespaces.
-use Rattle.std.specs.Prelude.{◌≡◌, ℕ, ◌<◌, true, false, Some, slice_get, slice_set, vec_len}
+use Rattle.std.specs.Prelude.{◌≡◌, ◌⊎◌, ℕ, ◌<◌, true, false, Some, None, slice_get, slice_set, vec_len}
 use Rattle.std.specs.BTreeSet.{BTreeSet}
 use Rattle.rn_text.specs.Texts.{Text}
 use Rattle.rn_xml.specs.declared.document.XmlAttribute.{XmlAttribute}
@@ -35,3 +35,19 @@ pub record NamesRow (old new : TagReader) (index : ℕ) (seen newer : BTreeSet (
   pub fresh : has_pair seen (uri, local) ≡ false
   pub seen_now : has_pair newer (uri, local) ≡ true
   pub seen_still : (p : ℕ × ℕ) → has_pair seen p ≡ true → has_pair newer p ≡ true
+  pub seen_only : (p : ℕ × ℕ) → has_pair newer p ≡ true → ((p.0 ≡ uri) × (p.1 ≡ local)) ⊎ (has_pair seen p ≡ true)
+
+-- the row has a name that was seen, where the new reader knows the old one's local names
+pub record RepeatsName (old new : TagReader) (row : XmlAttribute) (seen : BTreeSet (ℕ × ℕ)) : Type 0 where
+  pub uri : ℕ
+  pub local : ℕ
+  pub means : attribute_index old row.name.prefix.now ≡ Some uri
+  pub known : index_in new.locals row.name.local.now ≡ Some local
+  pub locals : (q : Text) (i : ℕ) → index_in old.locals q ≡ Some i → index_in new.locals q ≡ Some i
+  pub has : has_pair seen (uri, local) ≡ true
+
+-- the attribute of this index can't have a name: its prefix means nothing, or its name was seen
+pub record CannotName (old new : TagReader) (index : ℕ) (seen : BTreeSet (ℕ × ℕ)) : Type 0 where
+  pub row : XmlAttribute
+  pub there : slice_get old.tables.document.attributes.items index ≡ Some row
+  pub why : (attribute_index old row.name.prefix.now ≡ None) ⊎ RepeatsName old new row seen

@@ -1,8 +1,9 @@
 -- Elements that are open, the innermost first, with what is read of each.
-use Rattle.std.specs.Prelude.{ℕ, List, [], ◌∷◌, ◌++◌, Option, Some, None}
+use Rattle.std.specs.Prelude.{◌≡◌, true, ℕ, List, [], ◌∷◌, ◌++◌, Option, Some, None}
 use Rattle.rn_xml.specs.Infoset.{Name, Attribute, Binding, Node, element, Nodes, no_nodes, more_nodes}
-use Rattle.rn_xml.specs.XmlTags.{Scope, IsEndTag}
+use Rattle.rn_xml.specs.XmlTags.{Scope, IsTagFront, IsEndTag}
 use Rattle.rn_xml.specs.XmlDocuments.{IsElement, IsContent}
+use Rattle.rn_xml.specs.inside.Fronts.{closes_tag}
 
 -- an element whose start tag is read: its name as it is written, what its tag says, the children that are read, the index of its row,
 -- and how many texts come before it
@@ -62,3 +63,28 @@ TakesElement cs opened rest = (x : Node) (behind : List ℕ) → IsElement (scop
 -- the same, where the innermost may end
 abbrev pub TakesEnd : List ℕ → OpenElement → List OpenElement → List ℕ → Type 0
 TakesEnd cs e around rest = (behind : List ℕ) → IsEndTag e.qname rest behind → Closes cs around (finished e no_nodes) behind
+
+-- the characters end these open elements, and then these are left
+abbrev pub EndsAll : List OpenElement → List ℕ → List ℕ → Type 0
+EndsAll [] rest left = rest ≡ left
+EndsAll (e ∷ around) rest left = (k : Nodes) × (after : List ℕ) × (behind : List ℕ) × IsContent (e.bound ++ scope_of around) rest k after × IsEndTag e.qname after behind × EndsAll around behind left
+
+-- where an element ends that these characters begin with, the rest ends the open elements
+abbrev pub Needs : List ℕ → List OpenElement → List ℕ → Type 0
+Needs cs opened rest = (x : Node) (left : List ℕ) → IsElement [] cs x left → EndsAll opened rest left
+
+-- the same, where an element is the front of the rest
+abbrev pub NeedsElement : List ℕ → List OpenElement → List ℕ → Type 0
+NeedsElement cs opened rest = (x : Node) (left : List ℕ) → IsElement [] cs x left → (y : Node) × (behind : List ℕ) × IsElement (scope_of opened) rest y behind × EndsAll opened behind left
+
+-- the same, where the innermost ends
+abbrev pub NeedsEnd : List ℕ → OpenElement → List OpenElement → List ℕ → Type 0
+NeedsEnd cs e around rest = (x : Node) (left : List ℕ) → IsElement [] cs x left → (behind : List ℕ) × IsEndTag e.qname rest behind × EndsAll around behind left
+
+-- no start tag begins here, nor that of an element without content
+abbrev pub LacksTag : Scope → List ℕ → Type 0
+LacksTag scope cs = (qname : List ℕ) (name : Name) (bound : List Binding) (attributes : List Attribute) (rest : List ℕ) → IsTagFront scope cs qname name bound attributes rest → ¬ (closes_tag rest ≡ true)
+
+-- no element is at the front
+abbrev pub LacksElement : List ℕ → Type 0
+LacksElement cs = (x : Node) (left : List ℕ) → ¬ IsElement [] cs x left

@@ -1,7 +1,7 @@
 -- The tables of a document of which elements are open.
 use Rattle.std.specs.Prelude.{◌≡◌, ℕ, ◌+◌, ◌<◌, true, false, List, [], ◌∷◌, ◌++◌, Option, Some, map, slice_get, bytes_eq}
 use Rattle.std.specs.Option.{option_map}
-use Rattle.std.specs.Str.{chars}
+use Rattle.std.specs.Str.{chars, IsUtf8}
 use Rattle.rn_text.specs.Texts.{Text}
 use Rattle.rn_xml.specs.Infoset.{Binding, Node, element, Nodes, no_nodes, more_nodes}
 use Rattle.rn_xml.specs.TableRows.{rows_of}
@@ -23,7 +23,7 @@ pub record IsOpenRow (d : XmlDocument) (e : OpenElement) (parent : Option ℕ) :
   pub has_parent : row.parent ≡ parent
   pub before : ComesBeforeText d row.at e.texts
   pub is : (k : Nodes) → node_of d row k ≡ element e.name e.bound e.attributes k
-  pub named : IsQName e.qname (chars e.name.prefix) (chars e.name.local)
+  pub named : IsQName e.qname (chars e.name.prefix) (chars e.name.local) × IsUtf8 e.name.prefix × IsUtf8 e.name.local
 
 -- the tables hold these open elements and the children that are read, up to this element and this text
 abbrev pub HoldsOpen : XmlDocument → List OpenElement → ℕ → ℕ → Type 0

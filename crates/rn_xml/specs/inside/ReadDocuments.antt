@@ -8,8 +8,9 @@ use Rattle.rn_xml.specs.XmlDocuments.{IsElement}
 use Rattle.rn_xml.specs.DocumentTrees.{HoldsRoot}
 use Rattle.rn_xml.specs.declared.document.XmlDocument.{XmlDocument}
 use Rattle.rn_xml.specs.declared.tags.TagReader.{TagReader}
+use Rattle.rn_xml.specs.inside.Fronts.{IsBare}
 use Rattle.rn_xml.specs.inside.KnownTexts.{KnowsUris}
-use Rattle.rn_xml.specs.inside.OpenElements.{OpenElement, scope_of, rows_opened, Reads, TakesElement, TakesEnd}
+use Rattle.rn_xml.specs.inside.OpenElements.{OpenElement, scope_of, rows_opened, Needs, Reads, TakesElement, TakesEnd}
 use Rattle.rn_xml.specs.inside.OpenTables.{HoldsOpen, HoldsClosed, ArePlacedBefore, binding_at, Denotes}
 use Rattle.rn_xml.specs.inside.Rests.{source}
 
@@ -41,8 +42,8 @@ IsRootRead cs d rest = (x : Node) × IsElement [] cs x rest × HoldsRoot d x
 
 -- the characters are read up to this rest: within open elements, or the root has ended
 pub data IsReading (cs : List ℕ) (r : TagReader) (rest : Text) : Type 0 where
-  within : (e : OpenElement) (outer : List OpenElement) → Reads cs e outer (source rest) → AreOpen r (e ∷ outer) (place_of r rest) → IsReading cs r rest
-  done : r.opened.items ≡ [] → IsRootRead cs r.tables.document (source rest) → IsReading cs r rest
+  within : (e : OpenElement) (outer : List OpenElement) → Reads cs e outer (source rest) → Needs cs (e ∷ outer) (source rest) → AreOpen r (e ∷ outer) (place_of r rest) → IsReading cs r rest
+  done : r.opened.items ≡ [] → IsRootRead cs r.tables.document (source rest) → Needs cs [] (source rest) → IsReading cs r rest
 
 -- a start tag, or that of an element without content, was read, and its element is open
 pub record OpensTag (old new : TagReader) (opened : List OpenElement) (tag rest : Text) (is_empty : Bool) : Type 0 where
@@ -59,3 +60,5 @@ pub record IsAtTag (cs : List ℕ) (r : TagReader) (parent : ℕ) (tag : Text) :
   pub opens : AreOpen r (e ∷ outer) (place_of r tag)
   pub takes : TakesElement cs (e ∷ outer) (source tag)
   pub ends : TakesEnd cs e outer (source tag)
+  pub needs : Needs cs (e ∷ outer) (source tag)
+  pub bare : IsBare (source tag)

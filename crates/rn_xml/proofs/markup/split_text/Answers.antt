@@ -3,6 +3,9 @@ use Rattle.std.specs.Prelude.{string_bytes}
 use Rattle.std.proofs.lemmas.Bool.{eqb-true}
 use Rattle.rn_xml.specs.inside.Rests.{source}
 use Rattle.rn_xml.proofs.CharacterData.{characters_more, characters_none}
+use Rattle.std.proofs.lemmas.Result.{err_from_is_err_and}
+use Rattle.std.specs.Str.{chars}
+use Rattle.rn_xml.proofs.Refusals.RefusedCharacters.{text_reaches}
 use Rattle.rn_xml.proofs.markup.split_text.Goals as goal
 
 pub loop-content-init : goal.loop-content-init
@@ -32,3 +35,8 @@ loop-content-preserved c =
       λ some. omega arith,
       characters_more (string_bytes c.loop-content.content) (string_bytes c.read_run.new.out) (source c.args.text.now) (source c.loop-content.rest.now) (source c.in-Some.after.now) c.loop-content.invariant.4 read,
     )
+
+pub returns-in_err-after-clause-refused : goal.returns-in_err-after-clause-refused
+returns-in_err-after-clause-refused c =
+    let p = err_from_is_err_and c.from_residual.result c.from_residual.ensures.1 in
+    rw (p.1, p.2) (λ own. text_reaches (source c.args.text.now) (chars (string_bytes c.loop-content.content)) (source c.loop-content.rest.now) c.loop-content.invariant.4 (c.in_err-after.ensures.refused own))

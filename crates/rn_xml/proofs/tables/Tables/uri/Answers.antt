@@ -11,7 +11,7 @@ returns-clause-knows c = λ knows.
       | in_default w ↦ sym w.in_default.ensures
     ] in
     knows_push c.args.self.now _ c.args.uri.now c.in_ok-from_str.field-0 c.len-index.result knows c.args.self.now.sound.reserved c.in_ok-from_str.ensures.ok c.in_ok-push.ensures.items unknown
-    c.len-index.ensures c.in_ok-insert.ensures
+    c.len-index.ensures c.in_ok-insert.ensures.ok
 
 pub returns-clause-is : goal.returns-clause-is
 returns-clause-is c = λ knows. pushed_uri c.args.self.now.document (record c.args.self.now.document { uris = c.push.new.self }) c.args.uri.now c.in_ok-from_str.field-0 c.len-index.result c.in_ok-from_str.ensures.ok c.in_ok-push.ensures.items c.len-index.ensures

@@ -1,9 +1,11 @@
 use Rattle.std.proofs.Common.{◌∙◌, refl, arith}
-use Rattle.rn_xml.proofs.NamedAttributes.{names_none, names_more, tag_named, row_count, rest_more}
+use Rattle.rn_xml.proofs.NamedAttributes.{none_there, names_none, names_more, tag_named, row_count, rest_more}
+use Rattle.std.proofs.lemmas.Result.{err_from_is_err_and}
+use Rattle.rn_xml.proofs.Refusals.RefusedTagNames.{tag_unnamed}
 use Rattle.rn_xml.proofs.tags.TagReader.name_attributes.Goals as goal
 
 pub loop-index-init : goal.loop-index-init
-loop-index-init c = (refl, refl, refl, λ low. names_none c.args.self.now c.args.first c.new-seen.result low, refl)
+loop-index-init c = (refl, refl, refl, λ low. names_none c.args.self.now c.args.first c.new-seen.result (none_there c.new-seen.result c.new-seen.ensures.empty) low, refl)
 
 pub loop-index-preserved : goal.loop-index-preserved
 loop-index-preserved c = (
@@ -21,3 +23,9 @@ pub returns-clause-named : goal.returns-clause-named
 returns-clause-named c = λ r outer declarations written has is.
     tag_named r c.args.self.now c.loop-index.self outer c.args.first c.loop-index.index declarations written c.loop-index.seen has is c.loop-index.invariant.3
     (omega (arith, c.loop-index-test.false, c.attribute_count-index-end.ensures, c.args.self.now.tables.document.attributes.ok.0))
+
+pub returns-in_err-name_attribute-clause-refused : goal.returns-in_err-name_attribute-clause-refused
+returns-in_err-name_attribute-clause-refused c =
+    let p = err_from_is_err_and c.from_residual.result c.from_residual.ensures.1 in
+    rw (p.1, p.2) (λ own r outer declarations written has is may. tag_unnamed r c.args.self.now c.loop-index.self c.name_attribute.new.self outer c.args.first c.loop-index.index declarations written c.loop-index.seen has is may
+    c.loop-index.invariant.3 (c.in_err-name_attribute.ensures.refused own))

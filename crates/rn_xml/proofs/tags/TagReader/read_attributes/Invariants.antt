@@ -1,4 +1,7 @@
 use Rattle.std.proofs.Common.{◌≡◌, ◌≢◌, ◌≤◌, [], List, length, vec_len}
+use Rattle.std.specs.Str.{chars}
+use Rattle.rn_text.specs.Segments.{after_run}
+use Rattle.rn_text.specs.Texts.{is_white}
 use denote.Shadow.{shadow}
 use denote.Text.{Utf8}
 use Rattle.rn_xml.specs.XmlCharacters.{IsSpace, MaySpace}
@@ -15,6 +18,7 @@ invariant-loop-c l = record {
   elements : vec_len l.self.tables.document.elements ≡ vec_len l.fn.self.tables.document.elements;
   spaced_within : length l.spaced ≤ length l.rest;
   rest_within : length l.rest ≤ length l.text;
+  run : chars l.spaced ≡ after_run is_white (chars l.rest);
   space : MaySpace (source l.rest) (source l.spaced);
   some : length l.spaced ≢ length l.rest → IsSpace (source l.rest) (source l.spaced);
   so_far : (outer : Scope) → HasAttributes l.fn.self l.fn.self outer l.first [] → (written : List WrittenAttribute) × AreAttributes (source l.text) written (source l.rest)
