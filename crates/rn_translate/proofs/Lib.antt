@@ -3,4 +3,8 @@ pub mod CutTexts
 pub mod CutTokens
 pub mod CutSigns
 pub mod CutLiterals
+pub mod WrittenTokens
+pub mod TreeSteps
+pub mod AddedTerms
+pub mod PrintedTerms
 pub mod NumberedNames

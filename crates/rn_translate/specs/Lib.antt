@@ -1,3 +1,5 @@
+pub mod inside
 pub mod Limits
 pub mod Origins
+pub mod Spelled
 pub mod Cuts

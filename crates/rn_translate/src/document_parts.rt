@@ -1,77 +1,92 @@
 // The parts of a document that a schema is made of: its elements of RELAX NG, attributes and texts.
+ghost use Rattle.std.specs.Prelude.{◌≡◌, ◌+◌, ◌<◌, ◌^◌, bytes_eq};
+ghost use Rattle.rn_xml.specs.DocumentTrees.{uri_at_index};
+ghost use Rattle.rn_translate.specs.inside.SchemaElements.{rng_uri};
+
 use crate::kinds::{Kind, Role};
-use rn_xml::{NO_NAMESPACE, XmlAttribute, XmlDocument, XmlElement};
-use std::alloc::{AllocError, Global};
+use rn_xml::{XmlAttribute, XmlDocument, XmlElement};
 
 /// The namespace of RELAX NG.
-pub(crate) const RNG_URI: &str = "http://relaxng.org/ns/structure/1.0";
+const RNG_URI: &str = "http://relaxng.org/ns/structure/1.0";
 
-/// What an element is by itself, wherever it is.
-#[derive(Clone, Copy)]
-pub(crate) struct Shape {
-    /// The element; `None` for one of the namespace of RELAX NG that has no name of RELAX NG.
-    pub kind: Option<Kind>,
-    /// How many of its children are elements of the namespace of RELAX NG.
-    pub children: usize,
+/// The name of the namespace of this index; empty where there is none.
+pub(crate) fn uri_at<'d>(document: &'d XmlDocument<'_>, index: usize) -> &'d str
+    ensures { result.now ≡ uri_at_index document.now index }
+{
+    match document.uris.get(index) {
+        Some(uri) => uri.as_str(),
+        None => "",
+    }
+}
+
+/// What an element is by itself; `None` for one of the namespace of RELAX NG that has no name of RELAX NG.
+pub(crate) fn kind_of(document: &XmlDocument<'_>, element: &XmlElement<'_>) -> Option<Kind> {
+    if is_rng(document, element.name.uri) {
+        return Kind::of_name(element.name.local);
+    }
+    Some(Kind::Foreign)
+}
+
+/// Whether the namespace of this index is that of RELAX NG.
+pub(crate) fn is_rng(document: &XmlDocument<'_>, index: usize) -> bool
+    ensures { result ≡ bytes_eq (uri_at_index document.now index) rng_uri }
+{
+    uri_at(document, index) == RNG_URI
+}
+
+/// The children of an element that are elements of the namespace of RELAX NG.
+#[derive(Clone, Copy, Debug)]
+pub(crate) struct Children {
+    /// How many there are.
+    pub count: usize,
     /// Whether one of them is an except.
     pub has_except: bool,
     /// Whether the first of them may be a name class.
     pub has_class: bool,
 }
 
-/// The index of the namespace of RELAX NG in a document, if the document has it.
-pub(crate) fn rng_index(document: &XmlDocument<'_>) -> Option<usize> {
-    document.uris.iter().position(|uri| uri.as_str() == RNG_URI)
-}
-
-/// What an element is. What is in an element of another vocabulary is of that too.
-fn kind_of(element: &XmlElement<'_>, rng: Option<usize>, parent: Option<Kind>) -> Option<Kind> {
-    if parent == Some(Kind::Foreign) || Some(element.name.uri) != rng {
-        return Some(Kind::Foreign);
-    }
-    Kind::of_name(element.name.local)
-}
-
-/// Counts an element among the children of the one around it.
-fn count_child(shapes: &mut [Shape], parent: usize, kind: Option<Kind>) {
-    if kind == Some(Kind::Foreign) {
-        return;
-    }
-    if let Some(shape) = shapes.get_mut(parent) {
-        if shape.children == 0 {
-            shape.has_class = kind.is_some_and(|it| Role::NameClass.admits(it));
+impl Children {
+    /// With one more behind them.
+    fn and(self, kind: Option<Kind>) -> Children {
+        if kind == Some(Kind::Foreign) {
+            return self;
         }
-        shape.children = shape.children.saturating_add(1);
-        if kind == Some(Kind::Except) {
-            shape.has_except = true;
+        Children {
+            count: self.count.saturating_add(1),
+            has_except: self.has_except || kind == Some(Kind::Except),
+            has_class: if self.count == 0 {
+                kind.is_some_and(|it| Role::NameClass.admits(it))
+            } else {
+                self.has_class
+            },
         }
     }
 }
 
-/// What each element of a document is.
-pub(crate) fn shapes_of(
-    alloc: Global,
-    document: &XmlDocument<'_>,
-) -> Result<Vec<Shape>, AllocError> {
-    let rng = rng_index(document);
-    let mut shapes: Vec<Shape> = Vec::new(alloc);
-    for element in &document.elements {
-        let around = match element.parent {
-            Some(parent) => shapes.get(parent).and_then(|shape| shape.kind),
-            None => None,
+/// The index of the first element that is in neither this one nor before it.
+pub(crate) fn behind(index: usize, element: &XmlElement<'_>) -> usize
+    requires { index + 1 < 2 ^ 64 }
+    ensures { index < result }
+{
+    element.end.max(index + 1)
+}
+
+/// The children of the element of this index, which are before the element `end`.
+pub(crate) fn children_of(document: &XmlDocument<'_>, index: usize, end: usize) -> Children {
+    let mut children = Children {
+        count: 0,
+        has_except: false,
+        has_class: false,
+    };
+    let mut next = index.saturating_add(1);
+    'children: while next < end {
+        let Some(child) = document.elements.get(next) else {
+            break;
         };
-        let kind = kind_of(element, rng, around);
-        if let Some(parent) = element.parent {
-            count_child(&mut shapes, parent, kind);
-        }
-        shapes.push(Shape {
-            kind,
-            children: 0,
-            has_except: false,
-            has_class: false,
-        })?;
+        children = children.and(kind_of(document, child));
+        next = behind(next, child);
     }
-    Ok(shapes)
+    children
 }
 
 /// The attribute of an element that has this name and no namespace.
@@ -80,10 +95,8 @@ pub(crate) fn attribute<'d, 'a>(
     element: &XmlElement<'a>,
     local: &str,
 ) -> Option<&'d XmlAttribute<'a>> {
-    document
-        .attributes_of(element)
-        .iter()
-        .find(|it| it.name.uri == NO_NAMESPACE && it.name.local == local)
+    document.attributes_of(element).iter().find(|it| it.name.local == local
+        && uri_at(document, it.name.uri).is_empty())
 }
 
 /// A text without the white space at its ends (4.2).

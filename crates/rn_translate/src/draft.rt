@@ -1,5 +1,5 @@
 // The compact text while it is made, with the place that each piece was made for.
-ghost use Rattle.std.specs.Prelude.{◌≡◌, ◌+◌, ◌<◌, ◌≤◌, ◌++◌, true, false, IsTrue, OnOk, length, string_bytes, vec_len};
+ghost use Rattle.std.specs.Prelude.{◌≡◌, ◌+◌, ◌<◌, ◌≤◌, ◌++◌, [], List, true, false, IsTrue, OnOk, length, string_bytes, vec_len};
 ghost use Rattle.std.specs.Str.{chars};
 ghost use Rattle.std.specs.String.{string_len};
 ghost use Rattle.rn_text.specs.Parts.{ends_token};
@@ -54,9 +54,15 @@ pub(crate) struct Draft {
 }
 
 impl Draft {
+    ghost use Rattle.rn_translate.specs.Spelled.{Spelled};
+    ghost use Rattle.rn_translate.specs.Cuts.{IsSpelledAs};
+    ghost use Rattle.rn_translate.specs.inside.DraftTokens.{Writes};
+    ghost use Rattle.rn_translate.specs.inside.SignTokens.{sign_tokens};
+
     /// A text of no bytes, for a document of so many.
     pub fn new(alloc: Global, source_len: usize) -> Draft
-        ensures { result.source_len ≡ source_len }
+        ensures source { result.source_len ≡ source_len }
+        ensures tokens { IsSpelledAs result.is_open (string_bytes result.text) [] }
     {
         Draft {
             text: String::new(alloc),
@@ -78,6 +84,8 @@ impl Draft {
         ensures len { OnOk result (string_len self.new.text
             ≡ string_len self.old.text + length text.now) }
         ensures open { OnOk result (0 < length text.now → self.new.is_open ≡ is_open) }
+        ensures tokens { (tokens : List Spelled) → IsSpelledAs is_open text.now tokens
+            → 0 < length text.now → OnOk result (Writes self.old self.new tokens) }
         ensures source { self.new.source_len ≡ self.old.source_len }
     {
         if text.is_empty() {
@@ -109,6 +117,7 @@ impl Draft {
             → 0 < string_len self.new.text) }
         ensures text { OnOk result (string_bytes self.new.text
             ≡ string_bytes self.old.text ++ gap self.old.is_open token.now) }
+        ensures tokens { OnOk result (Writes self.old self.new []) }
         ensures source { self.new.source_len ≡ self.old.source_len }
     {
         if !self.needs_gap(token) {
@@ -120,9 +129,13 @@ impl Draft {
 
     /// Appends a sign.
     pub fn put_sign(&mut self, at: usize, sign: Sign) -> Result<(), RngFault>
+        ensures tokens { OnOk result (Writes self.old self.new (sign_tokens sign)) }
         ensures source { self.new.source_len ≡ self.old.source_len }
     {
-        self.put(at, sign.text(), false)
+        match sign {
+            Sign::Nothing => Ok(()),
+            _ => self.put(at, sign.text(), false),
+        }
     }
 
     /// Appends a token, parted from what is before it.
@@ -130,6 +143,8 @@ impl Draft {
         requires { HasParts is_open token.now }
         ensures text { OnOk result (string_bytes self.new.text
             ≡ string_bytes self.old.text ++ (gap self.old.is_open token.now ++ token.now)) }
+        ensures tokens { (tokens : List Spelled) → IsSpelledAs is_open token.now tokens
+            → 0 < length token.now → OnOk result (Writes self.old self.new tokens) }
         ensures source { self.new.source_len ≡ self.old.source_len }
     {
         self.part(at, token)?;
@@ -150,25 +165,6 @@ impl Draft {
         }
         self.origins.push(Origin { from, at })?;
         self.next = from + 1;
-        Ok(())
-    }
-
-    /// Appends a text with its origins, parted from what is before it.
-    #[tactic(auto, using(crate::proofs::RisingOrigins::begins_on, crate::proofs::RisingOrigins::all_before))]
-    pub fn append(&mut self, other: &Draft) -> Result<(), RngFault>
-        ensures text { OnOk result (string_bytes self.new.text ≡ string_bytes self.old.text
-            ++ (gap self.old.is_open (string_bytes other.now.text)
-            ++ string_bytes other.now.text)) }
-        ensures source { self.new.source_len ≡ self.old.source_len }
-    {
-        let text = other.text.as_str();
-        let first = other.origins.first().map_or(0, |origin| origin.at);
-        self.part(first, text)?;
-        let before = self.text.len();
-        self.put(first, text, other.is_open)?;
-        'origins: for origin in &other.origins {
-            self.add_origin(before + origin.from, origin.at)?;
-        }
         Ok(())
     }
 

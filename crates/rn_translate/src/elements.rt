@@ -1,9 +1,16 @@
 // What each element of RELAX NG comes to in the compact text (compact syntax, section 3).
+ghost use Rattle.std.specs.Prelude.{◌≡◌, ◌∷◌, ◌++◌, [], codes, IfOk, OnOk};
+ghost use Rattle.rn_translate.specs.inside.Terms.{keyword as keyword_term, close_brace, open_brace, open_parenthesis, close_parenthesis, symbol};
+ghost use Rattle.rn_translate.specs.inside.Layouts.{around, begins_operands, closing, if_so, is_tight, opening, operands, then_behind};
+ghost use Rattle.rn_translate.specs.inside.Meanings.{Adds, is_parted, layout_meant, sign_terms};
+
+use crate::content::Holder;
 use crate::document_parts::{attribute, trimmed};
-use crate::kinds::{Kind, Role};
+use crate::kinds::Kind;
 use crate::rng_fault::RngFault;
 use crate::signs::Sign;
-use crate::standing::{Frame, Operator, Standing};
+use crate::standing::{Layout, Operator, Standing};
+use crate::terms::Term;
 use crate::translator::{Open, Translator};
 use crate::uris::Uri;
 use rn_text::Keyword;
@@ -18,10 +25,13 @@ impl<'d, 'a> Translator<'d, 'a> {
         }
     }
 
-    /// Writes how an element begins, and opens what holds its children.
-    pub fn write(&mut self, element: &'d XmlElement<'a>, open: Open) -> Result<(), RngFault> {
+    /// Writes an element up to its children, and answers how they are written.
+    pub fn write_front(
+        &mut self,
+        element: &'d XmlElement<'a>,
+        open: Open,
+    ) -> Result<Layout, RngFault> {
         let at = element.at;
-        self.hold_class(open)?;
         match open.holder.kind {
             Kind::Element => self.write_named(element, open, Keyword::Element),
             Kind::Attribute => self.write_named(element, open, Keyword::Attribute),
@@ -48,47 +58,20 @@ impl<'d, 'a> Translator<'d, 'a> {
         }
     }
 
-    /// Opens what holds the name class of an element or an attribute, and closes with what comes after it.
-    fn hold_class(&mut self, open: Open) -> Result<(), RngFault> {
-        let Some(around) = self.around() else {
-            return Ok(());
-        };
-        if open.holder.role != Role::NameClass || !around.holder.begins_with_class() {
-            return Ok(());
-        }
-        let closing = if around.holder.members(around.children) > 0 {
-            Sign::OpenBrace
-        } else {
-            Sign::BracedText
-        };
-        self.hold(Frame::around(open.end, open.at, Standing::Alone, closing))
-    }
-
     /// Writes an element or an attribute: its name, if it is an attribute, and what opens its content.
     fn write_named(
         &mut self,
         element: &'d XmlElement<'a>,
         open: Open,
         keyword: Keyword,
-    ) -> Result<(), RngFault> {
-        let at = element.at;
-        let _ = self.begin(at)?;
-        self.body.put_keyword(at, keyword)?;
-        let members = open.holder.members(open.children);
+    ) -> Result<Layout, RngFault> {
+        let members = open.holder.members(open.children.count);
+        self.put(element.at, Term::Keyword(keyword))?;
         if let Some(name) = attribute(self.document, element, "name") {
             self.put_given_name(element, open, name)?;
-            let sign = if members > 0 {
-                Sign::OpenBrace
-            } else {
-                Sign::BracedText
-            };
-            self.body.put_sign(at, sign)?;
+            self.put_sign(element.at, opening(members))?;
         }
-        if members == 0 {
-            return Ok(());
-        }
-        self.hold(Frame::around(open.end, at, Standing::Alone, Sign::CloseBrace))?;
-        self.hold_operands(open.end, at, Standing::Alone, Operator::Comma, members)
+        Ok(named_layout(open.holder, members))
     }
 
     /// Writes the name that the attribute `name` gives. That of an attribute has no namespace where neither its prefix nor
@@ -101,8 +84,17 @@ impl<'d, 'a> Translator<'d, 'a> {
     ) -> Result<(), RngFault> {
         let has_none = open.holder.kind == Kind::Attribute
             && attribute(self.document, element, "ns").is_none();
-        let unprefixed = if has_none { Uri::EMPTY } else { open.namespace };
-        self.put_name(name.value_at, name.value.as_str(), unprefixed, open.bare)
+        let unprefixed = if has_none {
+            Uri::EMPTY
+        } else {
+            open.context.namespace
+        };
+        self.put_name(
+            name.value_at,
+            name.value.as_str(),
+            unprefixed,
+            open.context.bare,
+        )
     }
 
     /// Writes a group, an interleave or a choice.
@@ -111,136 +103,215 @@ impl<'d, 'a> Translator<'d, 'a> {
         at: usize,
         open: Open,
         operator: Operator,
-    ) -> Result<(), RngFault> {
-        let standing = self.begin(at)?;
-        self.hold_operands(open.end, at, standing, operator, open.children)
+    ) -> Result<Layout, RngFault>
+        ensures added { OnOk result (Adds self.old self.new
+            (begins_operands «open».place.standing operator «open».children.count)) }
+        ensures layout { IfOk result (λ l. layout_meant l
+            ≡ operands «open».place.standing operator «open».children.count) }
+    {
+        self.put_operands(at, open.place.standing, operator, open.children.count)
+    }
+
+    /// Opens so many operands of an operator, with a parenthesis where they need it.
+    pub fn put_operands(
+        &mut self,
+        at: usize,
+        standing: Standing,
+        operator: Operator,
+        count: usize,
+    ) -> Result<Layout, RngFault>
+        ensures added { OnOk result (Adds self.old self.new
+            (begins_operands standing operator count)) }
+        ensures layout { IfOk result (λ l. layout_meant l ≡ operands standing operator count) }
+        ensures closing { IfOk result (λ l. l.closing ≡ Sign.Nothing) }
+        ensures outer { IfOk result (λ l. l.outer ≡ Sign.Nothing) }
+    {
+        let _ = self.put_parenthesis(at, standing.parts(operator, count))?;
+        Ok(Layout::operands(standing, operator, count))
     }
 
     /// Writes what is repeated, or left out: several children are a group (4.12).
-    fn write_repetition(&mut self, at: usize, open: Open, sign: Sign) -> Result<(), RngFault> {
-        if self.begin(at)? == Standing::Tight {
-            self.hold_parenthesis(at, open)?;
-        }
-        self.hold(Frame::around(open.end, at, Standing::Tight, sign))?;
-        self.hold_operands(
-            open.end,
+    fn write_repetition(&mut self, at: usize, open: Open, sign: Sign) -> Result<Layout, RngFault>
+        ensures added { OnOk result (Adds self.old self.new
+            (if_so (is_tight «open».place.standing) open_parenthesis
+            ++ begins_operands Standing.Tight Operator.Comma «open».children.count)) }
+        ensures layout { IfOk result (λ l. layout_meant l
+            ≡ then_behind (operands Standing.Tight Operator.Comma «open».children.count)
+            (sign_terms sign ++ if_so (is_tight «open».place.standing) close_parenthesis)) }
+    {
+        let outer = self.put_parenthesis(at, open.place.standing.is_tight())?;
+        let operands = self.put_operands(
             at,
             Standing::Tight,
             Operator::Comma,
-            open.children,
-        )
+            open.children.count,
+        )?;
+        Ok(operands.then(sign, outer))
     }
 
-    /// Writes a parenthesis, and opens what ends with the other one.
-    fn hold_parenthesis(&mut self, at: usize, open: Open) -> Result<(), RngFault> {
-        self.body.put_parenthesis(at)?;
-        self.hold(Frame::around(open.end, at, Standing::Alone, Sign::CloseParenthesis))
+    /// Writes a parenthesis where one is needed, and answers what closes it.
+    fn put_parenthesis(&mut self, at: usize, is_needed: bool) -> Result<Sign, RngFault>
+        ensures added { OnOk result (Adds self.old self.new (if_so is_needed open_parenthesis)) }
+        ensures layout { IfOk result (λ sign. sign_terms sign ≡ if_so is_needed close_parenthesis) }
+    {
+        if is_needed {
+            self.put(at, Term::Parenthesis)?;
+            return Ok(Sign::CloseParenthesis);
+        }
+        Ok(Sign::Nothing)
     }
 
     /// Writes what has its content between braces: several children are a group (4.12).
-    fn write_braces(&mut self, at: usize, open: Open, keyword: Keyword) -> Result<(), RngFault> {
-        self.write_keyword(at, keyword)?;
-        self.body.put_sign(at, Sign::OpenBrace)?;
-        self.hold(Frame::around(open.end, at, Standing::Alone, Sign::CloseBrace))?;
-        self.hold_operands(
-            open.end,
-            at,
-            Standing::Alone,
-            Operator::Comma,
-            open.children,
-        )
+    fn write_braces(&mut self, at: usize, open: Open, keyword: Keyword) -> Result<Layout, RngFault>
+        ensures added { OnOk result (Adds self.old self.new (keyword_term keyword ∷ open_brace)) }
+        ensures layout { IfOk result (λ l. layout_meant l
+            ≡ then_behind (operands Standing.Alone Operator.Comma «open».children.count)
+            close_brace) }
+    {
+        self.put(at, Term::Keyword(keyword))?;
+        self.put_sign(at, Sign::OpenBrace)?;
+        let operands = Layout::operands(Standing::Alone, Operator::Comma, open.children.count);
+        Ok(operands.then(Sign::CloseBrace, Sign::Nothing))
     }
 
-    /// Writes a pattern that is a keyword, or begins with one.
-    pub fn write_keyword(&mut self, at: usize, keyword: Keyword) -> Result<(), RngFault> {
-        let _ = self.begin(at)?;
-        self.body.put_keyword(at, keyword)
+    /// Writes a pattern that is a keyword.
+    fn write_keyword(&mut self, at: usize, keyword: Keyword) -> Result<Layout, RngFault>
+        ensures added { OnOk result (Adds self.old self.new (keyword_term keyword ∷ [])) }
+        ensures layout { IfOk result (λ l. layout_meant l ≡ around []) }
+    {
+        self.put(at, Term::Keyword(keyword))?;
+        Ok(Layout::none())
     }
 
     /// Writes a reference.
-    fn write_reference(&mut self, element: &'d XmlElement<'a>) -> Result<(), RngFault> {
-        let _ = self.begin(element.at)?;
+    fn write_reference(&mut self, element: &'d XmlElement<'a>) -> Result<Layout, RngFault> {
         let (at, name) = self.value(element, "name");
-        self.put_identifier(at, name)
+        self.put_identifier(at, trimmed(name))?;
+        Ok(Layout::none())
     }
 
     /// Writes a reference to the grammar around.
-    fn write_parent_reference(&mut self, element: &'d XmlElement<'a>) -> Result<(), RngFault> {
-        self.write_keyword(element.at, Keyword::Parent)?;
-        let (at, name) = self.value(element, "name");
-        self.put_identifier(at, name)
+    fn write_parent_reference(&mut self, element: &'d XmlElement<'a>) -> Result<Layout, RngFault> {
+        self.put(element.at, Term::Keyword(Keyword::Parent))?;
+        self.write_reference(element)
     }
 
     /// Writes a value, with its datatype if it gives one.
-    fn write_value(&mut self, element: &'d XmlElement<'a>, open: Open) -> Result<(), RngFault> {
-        let _ = self.begin(element.at)?;
+    fn write_value(&mut self, element: &'d XmlElement<'a>, open: Open) -> Result<Layout, RngFault> {
         if let Some(datatype) = attribute(self.document, element, "type") {
-            self.put_datatype(datatype.value_at, datatype.value.as_str(), open.library)?;
+            self.put_datatype(
+                datatype.value_at,
+                trimmed(datatype.value.as_str()),
+                open.context.library,
+            )?;
         }
         let (at, content) = self.content(open.index, element.at);
-        self.body.put_literal(self.alloc, at, content)
+        self.put(at, Term::Literal(content))?;
+        Ok(Layout::none())
     }
 
     /// Writes data without its parameters and its except.
-    fn write_data(&mut self, element: &'d XmlElement<'a>, open: Open) -> Result<(), RngFault> {
-        self.begin_excepted(element.at, open)?;
+    fn write_data(&mut self, element: &'d XmlElement<'a>, open: Open) -> Result<Layout, RngFault> {
+        let layout = self.begin_excepted(element.at, open)?;
         let (at, datatype) = self.value(element, "type");
-        self.put_datatype(at, datatype, open.library)
+        self.put_datatype(at, trimmed(datatype), open.context.library)?;
+        Ok(layout)
     }
 
     /// Begins what may have an except, with parentheses where that needs them.
-    fn begin_excepted(&mut self, at: usize, open: Open) -> Result<(), RngFault> {
-        let standing = self.begin(at)?;
-        if open.has_except && standing != Standing::Alone {
-            return self.hold_parenthesis(at, open);
-        }
-        self.hold(Frame::around(open.end, at, Standing::Alone, Sign::Nothing))
+    fn begin_excepted(&mut self, at: usize, open: Open) -> Result<Layout, RngFault>
+        ensures added { OnOk result (Adds self.old self.new
+            (if_so (is_parted «open») open_parenthesis)) }
+        ensures layout { IfOk result (λ l. layout_meant l
+            ≡ around (if_so (is_parted «open») close_parenthesis)) }
+    {
+        let closing = self.put_parenthesis(at, open.is_parted())?;
+        Ok(Layout::around(Standing::Alone, closing))
     }
 
     /// Writes a parameter, and the braces round all of them with the first and the last one.
-    fn write_param(&mut self, element: &'d XmlElement<'a>, open: Open) -> Result<(), RngFault> {
-        let Some(around) = self.around() else {
-            return Ok(());
-        };
-        let front = if around.begun <= 1 {
+    fn write_param(&mut self, element: &'d XmlElement<'a>, open: Open) -> Result<Layout, RngFault> {
+        let front = if open.place.is_first {
             Sign::OpenBrace
         } else {
             Sign::Space
         };
-        self.body.put_sign(element.at, front)?;
+        self.put_sign(element.at, front)?;
         let (name_at, name) = self.value(element, "name");
         self.put_local_name(name_at, trimmed(name))?;
-        self.body.put_sign(name_at, Sign::Equals)?;
+        self.put_sign(name_at, Sign::Equals)?;
         let (at, content) = self.content(open.index, element.at);
-        self.body.put_literal(self.alloc, at, content)?;
-        let excepts = usize::from(around.has_except);
-        if around.begun.saturating_add(excepts) >= around.children {
-            self.body.put_sign(element.at, Sign::CloseBrace)?;
+        self.put(at, Term::Literal(content))?;
+        if open.place.is_last {
+            self.put_sign(element.at, Sign::CloseBrace)?;
         }
-        Ok(())
+        Ok(Layout::none())
     }
 
     /// Writes an except: several children are a choice (4.12).
-    fn write_except(&mut self, at: usize, open: Open) -> Result<(), RngFault> {
-        self.body.put_sign(at, Sign::Minus)?;
-        self.hold_operands(open.end, at, Standing::Tight, Operator::Bar, open.children)
+    fn write_except(&mut self, at: usize, open: Open) -> Result<Layout, RngFault>
+        ensures added { OnOk result (Adds self.old self.new (symbol (codes "-")
+            ∷ begins_operands Standing.Tight Operator.Bar «open».children.count)) }
+        ensures layout { IfOk result (λ l. layout_meant l
+            ≡ operands Standing.Tight Operator.Bar «open».children.count) }
+    {
+        self.put_sign(at, Sign::Minus)?;
+        self.put_operands(at, Standing::Tight, Operator::Bar, open.children.count)
     }
 
     /// Writes the class of one name. Refused where its text is no name.
-    fn write_name(&mut self, element: &'d XmlElement<'a>, open: Open) -> Result<(), RngFault> {
-        let _ = self.begin(element.at)?;
+    fn write_name(&mut self, element: &'d XmlElement<'a>, open: Open) -> Result<Layout, RngFault> {
         let (at, content) = self.content(open.index, element.at);
         self.check_name(at, content)?;
-        self.put_name(at, content, open.namespace, open.bare)
+        self.put_name(at, content, open.context.namespace, open.context.bare)?;
+        Ok(Layout::none())
     }
 
     /// Writes the class of all names, or of those of a namespace, without its except.
-    fn write_wildcard(&mut self, at: usize, open: Open) -> Result<(), RngFault> {
-        self.begin_excepted(at, open)?;
-        if open.holder.kind != Kind::NsName {
-            return self.body.put_any_name(at);
-        }
-        let prefix = self.prefix_of(at, open.namespace)?;
-        self.body.put_any_of(self.alloc, at, prefix.as_str())
+    fn write_wildcard(&mut self, at: usize, open: Open) -> Result<Layout, RngFault> {
+        let layout = self.begin_excepted(at, open)?;
+        let class = if open.holder.kind == Kind::NsName {
+            Term::AnyOf(open.context.namespace)
+        } else {
+            Term::AnyName
+        };
+        self.put(at, class)?;
+        Ok(layout)
+    }
+}
+
+/// What opens a content of so many members: of none, it is any text.
+fn opening(members: usize) -> Sign
+    ensures { sign_terms result ≡ opening members }
+{
+    if members > 0 {
+        Sign::OpenBrace
+    } else {
+        Sign::BracedText
+    }
+}
+
+/// What closes a content of so many members.
+fn closing(members: usize) -> Sign
+    ensures { sign_terms result ≡ closing members }
+{
+    if members > 0 {
+        Sign::CloseBrace
+    } else {
+        Sign::Nothing
+    }
+}
+
+/// How so many members of an element or an attribute are written, and its name class before them.
+fn named_layout(holder: Holder, members: usize) -> Layout {
+    let operands = Layout::operands(Standing::Alone, Operator::Comma, members);
+    let class = if holder.is_named {
+        Sign::Nothing
+    } else {
+        opening(members)
+    };
+    Layout {
+        class,
+        ..operands.then(closing(members), Sign::Nothing)
     }
 }

@@ -1,7 +1,8 @@
 // Signs and keywords, and how they are written.
-ghost use Rattle.std.specs.Prelude.{◌≡◌};
+ghost use Rattle.std.specs.Prelude.{◌≡◌, ◌≢◌, ◌<◌, length};
 ghost use Rattle.rn_text.specs.Keywords.{spelling};
 ghost use Rattle.rn_translate.specs.Cuts.{IsSign};
+ghost use Rattle.rn_translate.specs.inside.SignTokens.{sign_tokens};
 
 use rn_text::Keyword;
 
@@ -54,7 +55,8 @@ pub(crate) enum Sign {
 impl Sign {
     /// The sign as it is written.
     pub fn text(self) -> &'static str
-        ensures { IsSign result.now }
+        ensures sign { IsSign result.now (sign_tokens self) }
+        ensures some { self ≢ Sign.Nothing → 0 < length result.now }
     {
         match self {
             Sign::Nothing => "",

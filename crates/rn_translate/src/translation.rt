@@ -1,19 +1,16 @@
 // The compact text of a document, with the place of each piece.
-ghost use Rattle.std.specs.Prelude.{◌≡◌, ◌≤◌, List, true, length, string_bytes, IfErr, IfOk};
+ghost use Rattle.std.specs.Prelude.{◌≡◌, ◌≤◌, List, length, string_bytes, IfErr, IfOk};
 ghost use Rattle.std.specs.Str.{chars};
 ghost use Rattle.std.specs.String.{string_len};
-ghost use Rattle.rn_text.specs.Characters.{is_name_start};
 ghost use Rattle.rn_text.specs.Tokens.{HasTokens, Lexeme};
 ghost use Rattle.rn_translate.specs.Limits.{max_text};
 ghost use Rattle.rn_translate.specs.Origins.{AreOrigins};
 
 use crate::draft::Draft;
+use crate::printing::{Declared, print};
 use crate::rng_fault::RngFault;
-use crate::signs::Sign;
 use crate::translated::{Origins, Translated};
 use crate::translator::Translator;
-use crate::uris::{BoundUri, Uri, Uris, numbered};
-use rn_text::Keyword;
 use rn_xml::XmlDocument;
 use std::alloc::Global;
 
@@ -50,77 +47,17 @@ pub fn compact_text(
 }
 
 /// The compact text of a document: its declarations, and what its elements come to.
-#[tactic(auto, unfolding(rn_text::specs::Characters::is_name_start))]
 fn whole_text(alloc: Global, source: &str, document: &XmlDocument<'_>) -> Result<Draft, RngFault>
     ensures { IfOk result (λ whole. whole.source_len ≡ length source.now) }
 {
     let mut translator = Translator::new(alloc, source, document)?;
     translator.walk()?;
-    let mut whole = Draft::new(alloc, source.len());
-    declare_default(alloc, &mut whole, &translator)?;
-    let uris = &translator.uris;
-    let (namespaces, libraries) = (&translator.namespaces.bound, &translator.libraries.bound);
-    declare_all(alloc, &mut whole, uris, Keyword::Namespace, 'n', namespaces)?;
-    declare_all(alloc, &mut whole, uris, Keyword::Datatypes, 'd', libraries)?;
-    whole.append(&translator.body)?;
-    Ok(whole)
-}
-
-/// Declares the namespace of the root, if it has one.
-fn declare_default(
-    alloc: Global,
-    whole: &mut Draft,
-    translator: &Translator<'_, '_>,
-) -> Result<(), RngFault>
-    ensures { whole.new.source_len ≡ whole.old.source_len }
-{
-    if translator.default == Uri::INHERITED {
-        return Ok(());
-    }
-    let bound = BoundUri {
-        uri: translator.default,
-        at: 0,
-    };
-    whole.put_keyword(bound.at, Keyword::Default)?;
-    whole.put_keyword(bound.at, Keyword::Namespace)?;
-    declare(alloc, whole, &translator.uris, bound)
-}
-
-/// Declares prefixes, by this keyword: this letter and a number, from 1 on.
-fn declare_all(
-    alloc: Global,
-    whole: &mut Draft,
-    uris: &Uris<'_>,
-    keyword: Keyword,
-    letter: char,
-    bound: &[BoundUri],
-) -> Result<(), RngFault>
-    requires { is_name_start letter ≡ true }
-    ensures { whole.new.source_len ≡ whole.old.source_len }
-{
-    for (before, bound) in bound.iter().enumerate() {
-        whole.put_keyword(bound.at, keyword)?;
-        let prefix = numbered(alloc, letter, before + 1)?;
-        whole.put_word(bound.at, prefix.as_str())?;
-        declare(alloc, whole, uris, *bound)?;
-    }
-    Ok(())
-}
-
-/// Writes the URI that is bound, behind what it is bound to.
-fn declare(
-    alloc: Global,
-    whole: &mut Draft,
-    uris: &Uris<'_>,
-    bound: BoundUri,
-) -> Result<(), RngFault>
-    ensures { whole.new.source_len ≡ whole.old.source_len }
-{
-    whole.put_sign(bound.at, Sign::Equals)?;
-    if bound.uri == Uri::INHERITED {
-        whole.put_keyword(bound.at, Keyword::Inherit)?;
-    } else {
-        whole.put_literal(alloc, bound.at, uris.text(bound.uri))?;
-    }
-    whole.put_sign(bound.at, Sign::LineEnd)
+    let Translator {
+        uris,
+        default,
+        terms,
+        ..
+    } = translator;
+    let declared = Declared::of(alloc, &uris, default, terms.as_slice())?;
+    print(alloc, source.len(), &declared, terms.as_slice())
 }

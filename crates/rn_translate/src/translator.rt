@@ -1,42 +1,100 @@
-// The walk over the elements of a document, which writes its compact text.
-ghost use Rattle.std.specs.Prelude.{◌≡◌};
+// The walk over the elements of a document, which collects the terms of its compact text.
+ghost use Rattle.std.specs.Prelude.{◌≡◌, ◌<◌, ◌≤◌, ◌+◌, ◌-◌, ◌*◌, ◌^◌, true, List, IfOk, IsSome, OnOk, vec_len};
+ghost use Rattle.rn_translate.specs.inside.Terms.{Term as MeantTerm};
+ghost use Rattle.rn_translate.specs.inside.Meanings.{Adds, is_parted, known, sign_terms, term_meant};
+ghost use Rattle.rn_translate.specs.inside.TermNames.{has_names};
+ghost use Rattle.rn_translate.specs.inside.Walks.{content_at};
 
 use crate::content::{Holder, needed_attribute};
-use crate::document_parts::{Shape, attribute, is_white_space, rng_index, shapes_of};
-use crate::draft::Draft;
+use crate::document_parts::{Children, attribute, behind, children_of, kind_of, uri_at};
 use crate::kinds::{Kind, Role};
 use crate::rng_fault::{RngFault, RngFaultKind, shown};
 use crate::signs::Sign;
-use crate::standing::{Frame, Operator, Standing};
-use crate::uris::{Prefixes, Uri, Uris};
+use crate::standing::{Layout, Standing};
+use crate::terms::{Placed, Term};
+use crate::uris::{Uri, Uris};
 use rn_xml::{Scopes, XmlDocument, XmlElement};
 use std::alloc::Global;
 
-/// An element of RELAX NG that is open.
+/// What an element inherits, or gives itself.
 #[derive(Clone, Copy)]
-pub(crate) struct Open {
-    /// The element's index.
-    pub index: usize,
-    /// Its place.
-    pub at: usize,
-    /// The index of the first element that isn't in it any more.
-    pub end: usize,
-    /// What it holds.
-    pub holder: Holder,
-    /// How many children it has.
-    pub children: usize,
-    /// Whether one of them is an except.
-    pub has_except: bool,
-    /// How many children have begun.
-    pub begun: usize,
-    /// Whether an except has begun.
-    pub in_except: bool,
+pub(crate) struct Context {
     /// The nearest `ns` (4.9).
     pub namespace: Uri,
     /// The nearest `datatypeLibrary` (4.3).
     pub library: Uri,
     /// The namespace that a name without a prefix is in, where it is written here in the compact text.
     pub bare: Uri,
+}
+
+/// Where an element is in the one around it.
+#[derive(Clone, Copy)]
+pub(crate) struct Place {
+    /// What may be there.
+    pub role: Role,
+    /// How its pattern or name class stands.
+    pub standing: Standing,
+    /// Whether it is the first of the children.
+    pub is_first: bool,
+    /// Whether it is the last of them, but for an except.
+    pub is_last: bool,
+    /// Whether it is the root.
+    pub is_root: bool,
+}
+
+/// An element of RELAX NG that is open.
+#[derive(Clone, Copy)]
+pub(crate) struct Open {
+    /// The element's index.
+    pub index: usize,
+    /// Its place in the document's text.
+    pub at: usize,
+    /// The index of the first element that isn't in it any more.
+    pub end: usize,
+    /// What it holds.
+    pub holder: Holder,
+    /// Its children.
+    pub children: Children,
+    /// What is inherited in it.
+    pub context: Context,
+    /// Where it is.
+    pub place: Place,
+}
+
+/// How many children of an element have begun.
+#[derive(Clone, Copy)]
+pub(crate) struct Begun {
+    /// How many.
+    count: usize,
+    /// Whether an except is among them.
+    has_except: bool,
+}
+
+/// An element of RELAX NG that has begun, with what comes behind its children.
+#[derive(Clone, Copy)]
+pub(crate) struct Level {
+    /// The element.
+    open: Open,
+    /// How its children are written.
+    layout: Layout,
+    /// Which of them have begun.
+    begun: Begun,
+    /// What comes behind the element.
+    behind: Sign,
+}
+
+/// The child of an element that ends before the element `end`, if there is one of this index.
+fn child_at<'d, 'a>(
+    document: &'d XmlDocument<'a>,
+    end: usize,
+    index: usize,
+) -> Option<&'d XmlElement<'a>>
+    ensures { IsSome result → index < vec_len document.now.elements }
+{
+    if index < end {
+        return document.elements.get(index);
+    }
+    None
 }
 
 /// What is known in the middle of a document.
@@ -46,25 +104,16 @@ pub(crate) struct Translator<'d, 'a> {
     /// The text of the document.
     source: &'d str,
     pub document: &'d XmlDocument<'a>,
-    /// The index of the namespace of RELAX NG in the document, if the document has it.
-    pub rng: Option<usize>,
-    shapes: Vec<Shape>,
     pub uris: Uris<'d>,
     /// For each of the document's namespaces, its URI.
     pub document_uris: Vec<Uri>,
     pub scopes: Scopes,
-    /// The compact text after its declarations.
-    pub body: Draft,
-    /// The prefixes of namespaces.
-    pub namespaces: Prefixes,
-    /// The prefixes of datatype libraries.
-    pub libraries: Prefixes,
+    /// The terms of the compact text behind its declarations.
+    pub terms: Vec<Placed<'d>>,
     /// The namespace of the root, which is the default one.
     pub default: Uri,
-    open: Vec<Open>,
-    frames: Vec<Frame>,
     /// The index of the first text that isn't passed yet.
-    text: usize,
+    pub text: usize,
 }
 
 impl<'d, 'a> Translator<'d, 'a> {
@@ -74,75 +123,252 @@ impl<'d, 'a> Translator<'d, 'a> {
         source: &'d str,
         document: &'d XmlDocument<'a>,
     ) -> Result<Translator<'d, 'a>, RngFault> {
-        let mut uris = Uris::new(alloc)?;
+        let uris = Uris::of(alloc, document)?;
         let mut document_uris = Vec::new(alloc);
         for uri in &document.uris {
-            document_uris.push(uris.uri(uri.as_str())?)?;
+            document_uris.push(uris.uri(uri.as_str()))?;
         }
         Ok(Translator {
             alloc,
             source,
             document,
-            rng: rng_index(document),
-            shapes: shapes_of(alloc, document)?,
             uris,
             document_uris,
             scopes: Scopes::new(alloc),
-            body: Draft::new(alloc, source.len()),
-            namespaces: Prefixes::new(alloc),
-            libraries: Prefixes::new(alloc),
+            terms: Vec::new(alloc),
             default: Uri::INHERITED,
-            open: Vec::new(alloc),
-            frames: Vec::new(alloc),
             text: 0,
         })
     }
 
-    /// Writes what each element comes to. Refused at the first fault.
+    /// Adds a term that is made for a place.
+    pub fn put(&mut self, at: usize, term: Term<'d>) -> Result<(), RngFault>
+        requires { has_names term ≡ true }
+        ensures { (ts : List MeantTerm) → term_meant self.old.uris term.entry ≡ known ts
+            → OnOk result (Adds self.old self.new ts) }
+    {
+        self.terms.push(Placed { term, at })?;
+        Ok(())
+    }
+
+    /// Adds a sign, if it is one.
+    pub fn put_sign(&mut self, at: usize, sign: Sign) -> Result<(), RngFault>
+        ensures { OnOk result (Adds self.old self.new (sign_terms sign)) }
+    {
+        if sign == Sign::Nothing {
+            return Ok(());
+        }
+        self.put(at, Term::Sign(sign))
+    }
+
+    /// Collects what each element comes to. Refused at the first fault.
     pub fn walk(&mut self) -> Result<(), RngFault> {
         let document = self.document;
-        for (index, element) in document.elements.iter().enumerate() {
-            self.pass_texts(element.at)?;
-            self.close(index)?;
-            self.enter(index, element)?;
+        let Some(root) = document.elements.get(0) else {
+            return Ok(());
+        };
+        let kind = self.known_kind(root)?;
+        if !Role::Pattern.admits(kind) {
+            return Err(self.no_schema(root)?);
         }
-        self.pass_texts(usize::MAX)?;
-        self.close(usize::MAX)?;
-        self.end_line()
+        self.default = self.namespace_at(root, Uri::INHERITED);
+        let around = Context {
+            namespace: Uri::INHERITED,
+            library: Uri::EMPTY,
+            bare: self.default,
+        };
+        let place = Place {
+            role: Role::Pattern,
+            standing: Standing::Alone,
+            is_first: true,
+            is_last: true,
+            is_root: true,
+        };
+        let root = self.begin(root, 0, kind, around, place)?;
+        self.walk_from(document, root)
     }
 
-    /// Ends the last line, if it isn't ended.
-    fn end_line(&mut self) -> Result<(), RngFault> {
-        let is_ended = self.body.text.is_empty() || self.body.text.ends_with('\n');
-        self.body.put_sign(
-            0,
-            if is_ended {
-                Sign::Nothing
-            } else {
-                Sign::LineEnd
+    /// What an element is. Refused where it is one of RELAX NG that has no name of those.
+    fn known_kind(&self, element: &XmlElement<'a>) -> Result<Kind, RngFault> {
+        match kind_of(self.document, element) {
+            Some(kind) => Ok(kind),
+            None => {
+                let local = shown(self.alloc, element.name.local)?;
+                Err(RngFault::new(element.at, RngFaultKind::Element(local)))
+            }
+        }
+    }
+
+    /// The fault of a root that is no pattern.
+    fn no_schema(&self, element: &XmlElement<'a>) -> Result<RngFault, RngFault> {
+        let kind = RngFaultKind::NoSchema {
+            local: shown(self.alloc, element.name.local)?,
+            uri: shown(self.alloc, uri_at(self.document, element.name.uri))?,
+        };
+        Ok(RngFault::new(element.at, kind))
+    }
+
+    /// Collects what an element comes to that has begun, and all that is in it.
+    fn walk_from(&mut self, document: &'d XmlDocument<'a>, root: Level) -> Result<(), RngFault> {
+        let mut levels = Vec::new(self.alloc);
+        levels.push(root)?;
+        let mut next = root.open.index.saturating_add(1);
+        'levels: while let Some(level) = levels.last().copied() {
+            next = self.step(document, &mut levels, level, next)?;
+        }
+        Ok(())
+    }
+
+    /// Begins the next child of the innermost level, or ends that. Answers the index of the element that comes then.
+    fn step(
+        &mut self,
+        document: &'d XmlDocument<'a>,
+        levels: &mut Vec<Level>,
+        level: Level,
+        next: usize,
+    ) -> Result<usize, RngFault>
+        requires { 0 < vec_len levels.old }
+        ensures { IfOk result (λ behind. 2 * (vec_len document.now.elements - behind)
+            + vec_len levels.new
+            < 2 * (vec_len document.now.elements - next) + vec_len levels.old) }
+    {
+        self.pass_texts(level.open, next)?;
+        let Some(child) = child_at(document, level.open.end, next) else {
+            let _ = levels.pop();
+            self.end(level)?;
+            return Ok(next);
+        };
+        self.enter(levels, level, next, child)
+    }
+
+    /// Begins a child of the innermost level, or passes it if it is none of RELAX NG. Answers the index of the element
+    /// that comes then.
+    fn enter(
+        &mut self,
+        levels: &mut Vec<Level>,
+        around: Level,
+        index: usize,
+        child: &'d XmlElement<'a>,
+    ) -> Result<usize, RngFault>
+        requires { index + 1 < 2 ^ 64 }
+        ensures further { IfOk result (λ next. index < next) }
+        ensures levels { vec_len levels.new ≤ vec_len levels.old + 1 }
+    {
+        let kind = self.known_kind(child)?;
+        if kind == Kind::Foreign {
+            let behind = behind(index, child);
+            self.pass_foreign(index, behind);
+            return Ok(behind);
+        }
+        let level = self.begin_child(around, index, child, kind)?;
+        if let Some(last) = levels.last_mut() {
+            last.begun = around.begun.and(kind);
+        }
+        levels.push(level)?;
+        Ok(index + 1)
+    }
+
+    /// Begins a child of an element. Refused where it can't be there.
+    fn begin_child(
+        &mut self,
+        around: Level,
+        index: usize,
+        child: &'d XmlElement<'a>,
+        kind: Kind,
+    ) -> Result<Level, RngFault> {
+        let before = around.begun.count;
+        if let Some(refusal) = around
+            .open
+            .holder
+            .refusal(kind, before, around.begun.has_except)
+        {
+            return Err(RngFault::new(child.at, refusal));
+        }
+        self.put_sign(child.at, around.layout.before(before))?;
+        let place = around.open.place_inside(around.layout, before);
+        let level = self.begin(child, index, kind, around.open.context, place)?;
+        Ok(Level {
+            behind: around.layout.behind(before),
+            ..level
+        })
+    }
+
+    /// Begins an element of RELAX NG: writes it up to its children.
+    fn begin(
+        &mut self,
+        element: &'d XmlElement<'a>,
+        index: usize,
+        kind: Kind,
+        around: Context,
+        place: Place,
+    ) -> Result<Level, RngFault> {
+        let open = self.opened(index, element, kind, around, place)?;
+        let layout = self.write_front(element, open)?;
+        Ok(Level {
+            open,
+            layout,
+            begun: Begun {
+                count: 0,
+                has_except: false,
             },
-        )
+            behind: Sign::Nothing,
+        })
     }
 
-    /// Passes the texts before a place. Refused where one can't be.
-    fn pass_texts(&mut self, at: usize) -> Result<(), RngFault> {
+    /// Ends an element, behind its children.
+    fn end(&mut self, level: Level) -> Result<(), RngFault> {
+        let at = level.open.at;
+        self.put_sign(at, level.layout.inner)?;
+        self.put_sign(at, level.layout.closing)?;
+        self.put_sign(at, level.layout.outer)?;
+        self.put_sign(at, level.behind)?;
+        self.leave_scope(level.open.index);
+        Ok(())
+    }
+
+    /// The declarations of an element mean nothing from here on.
+    fn leave_scope(&mut self, index: usize) {
+        let document = self.document;
+        if let Some(element) = document.elements.get(index) {
+            self.scopes.leave(document.declarations_of(element));
+        }
+    }
+
+    /// Passes the texts of an element that come before another one. Refused where one can't be.
+    fn pass_texts(&mut self, open: Open, next: usize) -> Result<(), RngFault> {
         let document = self.document;
         'texts: while let Some(text) = document.texts.get(self.text) {
-            if text.at >= at {
+            if text.parent != open.index || text.at >= self.end_before(next) {
                 break;
             }
-            self.check_text(text.parent, text.at, text.content.as_str())?;
+            self.check_text(open.holder.kind, text.at, text.content.as_str())?;
             self.text += 1;
         }
         Ok(())
     }
 
-    /// Whether a text can be in its element (4.2).
-    fn check_text(&self, parent: usize, at: usize, content: &str) -> Result<(), RngFault> {
-        let Some(kind) = self.shapes.get(parent).and_then(|shape| shape.kind) else {
-            return Ok(());
-        };
-        if kind == Kind::Foreign || kind.holds_text() || content.chars().all(is_white_space) {
+    /// The place of an element; without one, a place behind all.
+    fn end_before(&self, index: usize) -> usize {
+        match self.document.elements.get(index) {
+            Some(element) => element.at,
+            None => usize::MAX,
+        }
+    }
+
+    /// Passes the texts in an element of another vocabulary.
+    fn pass_foreign(&mut self, index: usize, end: usize) {
+        let document = self.document;
+        'texts: while let Some(text) = document.texts.get(self.text) {
+            if text.parent < index || text.parent >= end {
+                break;
+            }
+            self.text += 1;
+        }
+    }
+
+    /// Whether a text can be in an element of RELAX NG (4.2).
+    fn check_text(&self, kind: Kind, at: usize, content: &str) -> Result<(), RngFault> {
+        if kind.holds_text() || content.chars().all(crate::document_parts::is_white_space) {
             return Ok(());
         }
         let at = self.after_white_space(at);
@@ -153,60 +379,21 @@ impl<'d, 'a> Translator<'d, 'a> {
     fn after_white_space(&self, at: usize) -> usize {
         match self.source.get(at..) {
             Some(rest) => {
-                let behind = rest.trim_start_matches(is_white_space);
+                let behind = rest.trim_start_matches(crate::document_parts::is_white_space);
                 self.source.len().saturating_sub(behind.len())
             }
             None => at,
         }
     }
 
-    /// The text of an element that was opened last and holds nothing else, and its place; where it has none, the given
-    /// place.
-    pub fn content(&self, index: usize, at: usize) -> (usize, &'d str) {
+    /// The text that an element begins with, and its place; where it has none, the given place.
+    pub fn content(&self, index: usize, at: usize) -> (usize, &'d str)
+        ensures { result.1.now ≡ content_at self.now.document.now self.now.text index }
+    {
         let document = self.document;
         match document.texts.get(self.text) {
             Some(text) if text.parent == index => (text.at, text.content.as_str()),
             _ => (at, ""),
-        }
-    }
-
-    /// Closes what ends before an element.
-    fn close(&mut self, index: usize) -> Result<(), RngFault> {
-        self.close_frames(index)?;
-        self.close_elements(index);
-        Ok(())
-    }
-
-    /// Closes the frames that end before an element.
-    fn close_frames(&mut self, index: usize) -> Result<(), RngFault> {
-        'frames: while let Some(frame) = self.frames.last().copied() {
-            if frame.end > index {
-                break;
-            }
-            let _ = self.frames.pop();
-            self.body.put_sign(frame.at, frame.closing)?;
-        }
-        Ok(())
-    }
-
-    /// Closes the elements that end before an element.
-    fn close_elements(&mut self, index: usize) {
-        'elements: while let Some(open) = self.open.last().copied() {
-            if open.end > index {
-                break;
-            }
-            let _ = self.open.pop();
-            self.leave_scope(open.index);
-        }
-    }
-
-    /// The declarations of an element mean nothing from here on.
-    fn leave_scope(&mut self, index: usize)
-        ensures { self.new.«open» ≡ self.old.«open» }
-    {
-        let document = self.document;
-        if let Some(element) = document.elements.get(index) {
-            self.scopes.leave(document.declarations_of(element));
         }
     }
 
@@ -222,84 +409,45 @@ impl<'d, 'a> Translator<'d, 'a> {
         Ok(())
     }
 
-    /// Opens an element, if it is one of RELAX NG, and writes how it begins.
-    fn enter(&mut self, index: usize, element: &'d XmlElement<'a>) -> Result<(), RngFault> {
-        let Some(shape) = self.shapes.get(index).copied() else {
-            return Ok(());
-        };
-        let Some(kind) = shape.kind else {
-            let local = shown(self.alloc, element.name.local)?;
-            return Err(RngFault::new(element.at, RngFaultKind::Element(local)));
-        };
-        if index == 0 && !Role::Pattern.admits(kind) {
-            return Err(self.no_schema(element)?);
-        }
-        if kind == Kind::Foreign {
-            return Ok(());
-        }
-        let open = self.opened(index, element, kind, shape)?;
-        self.open.push(open)?;
-        self.write(element, open)
-    }
-
-    /// The fault of a root that is no pattern.
-    fn no_schema(&self, element: &XmlElement<'a>) -> Result<RngFault, RngFault> {
-        let document = self.document;
-        let uri = document
-            .uris
-            .get(element.name.uri)
-            .map_or("", |uri| uri.as_str());
-        let kind = RngFaultKind::NoSchema {
-            local: shown(self.alloc, element.name.local)?,
-            uri: shown(self.alloc, uri)?,
-        };
-        Ok(RngFault::new(element.at, kind))
-    }
-
-    /// An element of RELAX NG in its place. Refused where it can't be there, lacks something, or has what it can't
-    /// have.
+    /// An element of RELAX NG in its place. Refused where it lacks something, or has what it can't have.
     fn opened(
         &mut self,
         index: usize,
         element: &'d XmlElement<'a>,
         kind: Kind,
-        shape: Shape,
+        around: Context,
+        place: Place,
     ) -> Result<Open, RngFault> {
-        let role = self.begin_child(element.at, kind)?;
         let holder = Holder {
             kind,
-            role,
+            role: place.role,
             is_named: attribute(self.document, element, "name").is_some(),
         };
-        self.check_element(element, holder, shape)?;
+        let children = children_of(self.document, index, element.end);
+        self.check_element(element, holder, children)?;
         self.enter_scope(element)?;
         self.check_attributes(element, kind)?;
-        let around = self.open.last().copied();
-        let namespace = self.namespace_at(element, around)?;
-        if index == 0 {
-            self.default = namespace;
-        }
         Ok(Open {
             index,
             at: element.at,
             end: element.end,
             holder,
-            children: shape.children,
-            has_except: shape.has_except,
-            begun: 0,
-            in_except: false,
-            namespace,
-            library: self.library_at(element, around)?,
-            bare: self.bare_in(kind, around),
+            children,
+            context: Context {
+                namespace: self.namespace_at(element, around.namespace),
+                library: self.library_at(element, around.library),
+                bare: self.bare_in(kind, around.bare),
+            },
+            place,
         })
     }
 
     /// The namespace that names without a prefix are in, where they are written in what is open.
-    fn bare_in(&self, kind: Kind, around: Option<Open>) -> Uri {
+    fn bare_in(&self, kind: Kind, around: Uri) -> Uri {
         match kind {
             Kind::Attribute => Uri::EMPTY,
             Kind::Element => self.default,
-            _ => around.map_or(self.default, |open| open.bare),
+            _ => around,
         }
     }
 
@@ -308,9 +456,9 @@ impl<'d, 'a> Translator<'d, 'a> {
         &self,
         element: &XmlElement<'a>,
         holder: Holder,
-        shape: Shape,
+        children: Children,
     ) -> Result<(), RngFault> {
-        if let Some(lack) = holder.lack(shape.children, shape.has_class) {
+        if let Some(lack) = holder.lack(children.count, children.has_class) {
             return Err(RngFault::new(element.at, lack));
         }
         let Some(needed) = needed_attribute(holder.kind) else {
@@ -326,98 +474,51 @@ impl<'d, 'a> Translator<'d, 'a> {
         Err(RngFault::new(element.at, lack))
     }
 
-    /// Counts an element among the children of the one around it, and answers its role.
-    fn begin_child(&mut self, at: usize, kind: Kind) -> Result<Role, RngFault> {
-        let Some(around) = self.open.last_mut() else {
-            return Ok(Role::Pattern);
-        };
-        if let Some(refusal) = around.holder.refusal(kind, around.begun, around.in_except) {
-            return Err(RngFault::new(at, refusal));
-        }
-        let role = around.holder.role_inside(around.begun);
-        around.begun = around.begun.saturating_add(1);
-        if kind == Kind::Except {
-            around.in_except = true;
-        }
-        Ok(role)
-    }
-
-    /// The nearest `ns` of an element (4.9).
-    fn namespace_at(
-        &mut self,
-        element: &XmlElement<'a>,
-        around: Option<Open>,
-    ) -> Result<Uri, RngFault> {
+    /// The nearest `ns` of an element, where this one is inherited (4.9).
+    fn namespace_at(&self, element: &XmlElement<'a>, inherited: Uri) -> Uri {
         match attribute(self.document, element, "ns") {
-            Some(ns) => Ok(self.uris.uri(ns.value.as_str())?),
-            None => Ok(around.map_or(Uri::INHERITED, |open| open.namespace)),
+            Some(ns) => self.uris.uri(ns.value.as_str()),
+            None => inherited,
         }
     }
 
-    /// The nearest `datatypeLibrary` of an element (4.3).
-    fn library_at(
-        &mut self,
-        element: &XmlElement<'a>,
-        around: Option<Open>,
-    ) -> Result<Uri, RngFault> {
+    /// The nearest `datatypeLibrary` of an element, where this one is inherited (4.3).
+    fn library_at(&self, element: &XmlElement<'a>, inherited: Uri) -> Uri {
         match attribute(self.document, element, "datatypeLibrary") {
-            Some(library) => Ok(self.uris.uri(library.value.as_str())?),
-            None => Ok(around.map_or(Uri::EMPTY, |open| open.library)),
+            Some(library) => self.uris.uri(library.value.as_str()),
+            None => inherited,
         }
     }
+}
 
-    /// The element around the one that was opened last.
-    pub fn around(&self) -> Option<Open> {
-        let before = self.open.len().checked_sub(2)?;
-        self.open.get(before).copied()
+impl Begun {
+    /// With one more of this kind.
+    fn and(self, kind: Kind) -> Begun {
+        Begun {
+            count: self.count.saturating_add(1),
+            has_except: self.has_except || kind == Kind::Except,
+        }
+    }
+}
+
+impl Open {
+    /// Whether its except needs parentheses.
+    pub fn is_parted(self) -> bool
+        ensures { result ≡ is_parted self }
+    {
+        self.children.has_except && !self.place.standing.is_alone()
     }
 
-    /// Where what comes next is, after a separator if it isn't the first.
-    pub fn begin(&mut self, at: usize) -> Result<Standing, RngFault> {
-        let Some(frame) = self.frames.last_mut() else {
-            return Ok(Standing::Alone);
-        };
-        let (standing, separator, has_begun) = (frame.standing, frame.separator, frame.has_begun);
-        frame.has_begun = true;
-        if has_begun {
-            self.body.put_sign(at, separator)?;
+    /// Where a child after so many others is.
+    fn place_inside(self, layout: Layout, before: usize) -> Place {
+        let excepts = usize::from(self.children.has_except);
+        let begun = before.saturating_add(1);
+        Place {
+            role: self.holder.role_inside(before),
+            standing: layout.standing_of(before),
+            is_first: before == 0,
+            is_last: begun.saturating_add(excepts) >= self.children.count,
+            is_root: false,
         }
-        Ok(standing)
-    }
-
-    /// Opens what holds what comes next.
-    pub fn hold(&mut self, frame: Frame) -> Result<(), RngFault> {
-        self.frames.push(frame)?;
-        Ok(())
-    }
-
-    /// Opens what holds so many operands of an operator: of one alone, no more than that.
-    pub fn hold_operands(
-        &mut self,
-        end: usize,
-        at: usize,
-        standing: Standing,
-        operator: Operator,
-        count: usize,
-    ) -> Result<(), RngFault> {
-        if count <= 1 {
-            return self.hold(Frame::around(end, at, standing, Sign::Nothing));
-        }
-        let is_open = standing.needs_parentheses(operator);
-        if is_open {
-            self.body.put_parenthesis(at)?;
-        }
-        self.hold(Frame {
-            end,
-            at,
-            standing: Standing::Beside(operator),
-            separator: operator.sign(),
-            closing: if is_open {
-                Sign::CloseParenthesis
-            } else {
-                Sign::Nothing
-            },
-            has_begun: false,
-        })
     }
 }

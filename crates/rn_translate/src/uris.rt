@@ -1,8 +1,8 @@
-// Namespaces and datatype libraries, and their prefixes in the compact text.
-ghost use Rattle.std.specs.Prelude.{◌≡◌, true, IfOk, string_bytes};
-ghost use Rattle.std.specs.Str.{chars};
-ghost use Rattle.rn_text.specs.Characters.{is_name_start, is_ncname};
+// Namespaces and datatype libraries of a document.
+ghost use Rattle.std.specs.Prelude.{◌≡◌, ◌==◌};
+ghost use Rattle.rn_translate.specs.inside.PrintedTerms.{uri_text};
 
+use rn_xml::{XmlAttribute, XmlDocument};
 use std::alloc::{AllocError, Global};
 use std::collections::BTreeMap;
 
@@ -14,20 +14,30 @@ const XSD_URI: &str = "http://www.w3.org/2001/XMLSchema-datatypes";
 
 /// A namespace or a datatype library, by its index among the URIs.
 #[derive(Clone, Copy, Debug, PartialEq, Eq)]
-pub(crate) struct Uri(usize);
+pub(crate) struct Uri {
+    /// The index.
+    pub index: usize,
+}
 
 impl Uri {
     /// The namespace that a schema inherits where it is included, since it gives none (RELAX NG 2001, 4.9).
-    pub const INHERITED: Uri = Uri(0);
+    pub const INHERITED: Uri = Uri { index: 0 };
 
     /// No namespace, and the built-in library.
-    pub const EMPTY: Uri = Uri(1);
+    pub const EMPTY: Uri = Uri { index: 1 };
 
     /// The namespace of `xml:`.
-    pub const XML: Uri = Uri(2);
+    pub const XML: Uri = Uri { index: 2 };
 
     /// The library of XML Schema's datatypes.
-    pub const XSD: Uri = Uri(3);
+    pub const XSD: Uri = Uri { index: 3 };
+
+    /// Whether this is that URI.
+    pub fn is(self, other: Uri) -> bool
+        ensures { result ≡ (self.index == other.index) }
+    {
+        self.index == other.index
+    }
 }
 
 /// URIs, each once.
@@ -39,7 +49,7 @@ pub(crate) struct Uris<'d> {
 
 impl<'d> Uris<'d> {
     /// The URIs that mean something by themselves.
-    pub fn new(alloc: Global) -> Result<Uris<'d>, AllocError> {
+    fn new(alloc: Global) -> Result<Uris<'d>, AllocError> {
         let mut uris = Uris {
             texts: Vec::new(alloc),
             indices: BTreeMap::new(alloc),
@@ -51,71 +61,48 @@ impl<'d> Uris<'d> {
         Ok(uris)
     }
 
-    /// The text of a URI; none of the inherited one.
-    pub fn text(&self, uri: Uri) -> &'d str {
-        self.texts.get(uri.0).copied().unwrap_or("")
-    }
-
-    /// Adds a URI that isn't there yet.
-    fn add(&mut self, text: &'d str) -> Result<usize, AllocError> {
+    /// Adds a URI, if it isn't there yet.
+    fn add(&mut self, text: &'d str) -> Result<(), AllocError> {
+        if self.indices.get(text).is_some() {
+            return Ok(());
+        }
         let index = self.texts.len();
         self.texts.push(text)?;
         self.indices.insert(text, index)?;
-        Ok(index)
+        Ok(())
     }
 
-    /// The URI with this text.
-    pub fn uri(&mut self, text: &'d str) -> Result<Uri, AllocError> {
-        if let Some(index) = self.indices.get(text) {
-            return Ok(Uri(*index));
+    /// All URIs that elements of a document can mean: its namespaces, and those that `ns` and `datatypeLibrary` give.
+    pub fn of(alloc: Global, document: &'d XmlDocument<'_>) -> Result<Uris<'d>, AllocError> {
+        let mut uris = Uris::new(alloc)?;
+        'namespaces: for uri in &document.uris {
+            uris.add(uri.as_str())?;
         }
-        Ok(Uri(self.add(text)?))
+        'attributes: for attribute in &document.attributes {
+            if gives_uri(attribute) {
+                uris.add(attribute.value.as_str())?;
+            }
+        }
+        Ok(uris)
     }
-}
 
-/// A prefix: a letter, and a number behind it.
-#[tactic(auto, using(crate::proofs::NumberedNames::numbered_name))]
-pub(crate) fn numbered(alloc: Global, letter: char, number: usize) -> Result<String, AllocError>
-    requires { is_name_start letter ≡ true }
-    ensures { IfOk result (λ prefix. is_ncname (chars (string_bytes prefix)) ≡ true) }
-{
-    format!(in alloc; "{letter}{number}")
-}
+    /// The text of a URI; none of the inherited one.
+    pub fn text(&self, uri: Uri) -> &'d str
+        ensures { result.now ≡ uri_text self.now uri }
+    {
+        self.texts.get(uri.index).copied().unwrap_or("")
+    }
 
-/// A URI to which a prefix is bound.
-#[derive(Clone, Copy)]
-pub(crate) struct BoundUri {
-    /// The URI.
-    pub uri: Uri,
-    /// Where in the document its prefix was needed first.
-    pub at: usize,
-}
-
-/// Prefixes: a letter and a number, from 1 on in the order in which they were needed.
-#[derive(Drop)]
-pub(crate) struct Prefixes {
-    /// What the prefixes are bound to.
-    pub bound: Vec<BoundUri>,
-    numbers: BTreeMap<usize, usize>,
-}
-
-impl Prefixes {
-    /// No prefixes.
-    pub fn new(alloc: Global) -> Prefixes {
-        Prefixes {
-            bound: Vec::new(alloc),
-            numbers: BTreeMap::new(alloc),
+    /// The URI with this text; the empty one where none has it.
+    pub fn uri(&self, text: &str) -> Uri {
+        match self.indices.get(text) {
+            Some(index) => Uri { index: *index },
+            None => Uri::EMPTY,
         }
     }
+}
 
-    /// The number of the prefix of a URI, which is needed at this place.
-    pub fn number(&mut self, uri: Uri, at: usize) -> Result<usize, AllocError> {
-        if let Some(number) = self.numbers.get(&uri.0) {
-            return Ok(*number);
-        }
-        self.bound.push(BoundUri { uri, at })?;
-        let number = self.bound.len();
-        self.numbers.insert(uri.0, number)?;
-        Ok(number)
-    }
+/// Whether an attribute may give the URI of a namespace or a library.
+fn gives_uri(attribute: &XmlAttribute<'_>) -> bool {
+    matches!(attribute.name.local.as_bytes(), b"ns" | b"datatypeLibrary")
 }

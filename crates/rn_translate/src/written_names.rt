@@ -1,14 +1,17 @@
 // Names in a schema, and how they are written in the compact text (RELAX NG 2001, 4.2 and 4.8 to 4.10).
-ghost use Rattle.std.specs.Prelude.{◌≡◌, true, IfOk, OnOk, string_bytes};
+ghost use Rattle.std.specs.Prelude.{◌≡◌, ◌∷◌, ◌==◌, [], true, OnOk, Some, if◌then◌else◌};
 ghost use Rattle.std.specs.Str.{chars};
 ghost use Rattle.rn_text.specs.Characters.{is_ncname};
+ghost use Rattle.rn_translate.specs.inside.Terms.{Namespace, datatype, identifier, local as local_term, prefixed};
+ghost use Rattle.rn_translate.specs.inside.Meanings.{Adds, uri_meant};
 
 use crate::content::may_have;
-use crate::document_parts::trimmed;
+use crate::document_parts::{is_rng, trimmed};
 use crate::kinds::Kind;
 use crate::rng_fault::{RngFault, RngFaultKind, shown};
+use crate::terms::Term;
 use crate::translator::Translator;
-use crate::uris::{Uri, numbered};
+use crate::uris::Uri;
 use rn_text::is_ncname;
 use rn_xml::{NO_NAMESPACE, XML_NAMESPACE, XmlAttribute, XmlElement};
 
@@ -38,7 +41,7 @@ impl<'d, 'a> Translator<'d, 'a> {
         if uri == NO_NAMESPACE && may_have(kind, local) {
             return self.check_value(kind, attribute);
         }
-        if uri == NO_NAMESPACE || Some(uri) == self.rng {
+        if uri == NO_NAMESPACE || is_rng(self.document, uri) {
             return Err(self.unknown_attribute(kind, attribute)?);
         }
         Ok(())
@@ -109,11 +112,25 @@ impl<'d, 'a> Translator<'d, 'a> {
 
     /// The namespace of a name; without a prefix it is the given one.
     fn name_namespace(&self, prefix: Option<&str>, unprefixed: Uri) -> Uri {
-        let Some(prefix) = prefix else {
-            return unprefixed;
+        match prefix {
+            None => unprefixed,
+            Some("xml") => Uri::XML,
+            Some(prefix) => self.bound_namespace(prefix),
+        }
+    }
+
+    /// The namespace that a prefix other than `xml` is bound to here; none where it isn't bound.
+    fn bound_namespace(&self, prefix: &str) -> Uri {
+        let Some(index) = self.scopes.find(prefix) else {
+            return Uri::EMPTY;
         };
-        let index = self.declared_uri(prefix).unwrap_or(NO_NAMESPACE);
-        self.document_uris.get(index).copied().unwrap_or(Uri::EMPTY)
+        let Some(declaration) = self.document.declarations.get(index) else {
+            return Uri::EMPTY;
+        };
+        self.document_uris
+            .get(declaration.uri)
+            .copied()
+            .unwrap_or(Uri::EMPTY)
     }
 
     /// The namespace that a prefix means here, by its index in the document, if it is declared.
@@ -127,60 +144,56 @@ impl<'d, 'a> Translator<'d, 'a> {
     pub fn put_name(
         &mut self,
         at: usize,
-        text: &str,
+        text: &'d str,
         unprefixed: Uri,
         bare: Uri,
     ) -> Result<(), RngFault> {
         let (prefix, local) = split_name(trimmed(text));
         let namespace = self.name_namespace(prefix, unprefixed);
-        if namespace == bare {
+        self.put_name_in(at, namespace, local, bare)
+    }
+
+    /// Writes a name of a namespace, where a name without a prefix is in the namespace `bare`.
+    fn put_name_in(
+        &mut self,
+        at: usize,
+        namespace: Uri,
+        local: &'d str,
+        bare: Uri,
+    ) -> Result<(), RngFault>
+        ensures { (n : Namespace) → uri_meant self.old.uris namespace ≡ Some n → OnOk result
+            (Adds self.old self.new (if namespace.index == bare.index then local_term local.now ∷ []
+            else prefixed n local.now ∷ [])) }
+    {
+        if namespace.is(bare) {
             return self.put_local_name(at, local);
         }
         self.check_local_name(at, local)?;
-        let prefix = self.prefix_of(at, namespace)?;
-        self.body
-            .put_prefixed(self.alloc, at, prefix.as_str(), local)
+        self.put(at, Term::Named(namespace, local))
     }
 
     /// Writes a name without a colon.
-    pub fn put_local_name(&mut self, at: usize, name: &str) -> Result<(), RngFault> {
-        self.check_local_name(at, name)?;
-        self.body.put_word(at, name)
-    }
-
-    /// The prefix of a namespace, which is needed at this place.
-    #[tactic(auto, using(crate::proofs::NumberedNames::xml_name), unfolding(rn_text::specs::Characters::is_name_start))]
-    pub fn prefix_of(&mut self, at: usize, namespace: Uri) -> Result<String, RngFault>
-        ensures { IfOk result (λ prefix. is_ncname (chars (string_bytes prefix)) ≡ true) }
+    pub fn put_local_name(&mut self, at: usize, name: &'d str) -> Result<(), RngFault>
+        ensures { OnOk result (Adds self.old self.new (local_term name.now ∷ [])) }
     {
-        if namespace == Uri::XML {
-            return Ok(String::from_str(self.alloc, "xml")?);
-        }
-        let number = self.namespaces.number(namespace, at)?;
-        Ok(numbered(self.alloc, 'n', number)?)
+        self.check_local_name(at, name)?;
+        self.put(at, Term::Local(name))
     }
 
     /// Writes the name of a definition.
-    pub fn put_identifier(&mut self, at: usize, text: &str) -> Result<(), RngFault> {
-        let name = trimmed(text);
+    pub fn put_identifier(&mut self, at: usize, name: &'d str) -> Result<(), RngFault>
+        ensures { OnOk result (Adds self.old self.new (identifier name.now ∷ [])) }
+    {
         self.check_local_name(at, name)?;
-        self.body.put_identifier(self.alloc, at, name)
+        self.put(at, Term::Identifier(name))
     }
 
     /// Writes the name of a datatype of a library (4.3 and 4.4).
-    #[tactic(auto, using(crate::proofs::NumberedNames::xsd_name), unfolding(rn_text::specs::Characters::is_name_start))]
-    pub fn put_datatype(&mut self, at: usize, text: &str, library: Uri) -> Result<(), RngFault> {
-        let name = trimmed(text);
+    pub fn put_datatype(&mut self, at: usize, name: &'d str, library: Uri) -> Result<(), RngFault>
+        ensures { (n : Namespace) → uri_meant self.old.uris library ≡ Some n
+            → OnOk result (Adds self.old self.new (datatype n name.now ∷ [])) }
+    {
         self.check_local_name(at, name)?;
-        if library == Uri::XSD {
-            return self.body.put_prefixed(self.alloc, at, "xsd", name);
-        }
-        if library == Uri::EMPTY && matches!(name.as_bytes(), b"string" | b"token") {
-            return self.body.put_word(at, name);
-        }
-        let number = self.libraries.number(library, at)?;
-        let prefix = numbered(self.alloc, 'd', number)?;
-        self.body
-            .put_prefixed(self.alloc, at, prefix.as_str(), name)
+        self.put(at, Term::Datatype(library, name))
     }
 }

@@ -1,6 +1,7 @@
--- The texts that are not passed become fewer.
-use Rattle.std.proofs.Common.{◌-◌, length}
+-- Fewer texts are left.
+use Rattle.std.proofs.Common.{◌-◌}
+use Rattle.std.specs.Prelude.{vec_len}
 use Rattle.rn_translate.proofs.translator.Translator.pass_texts.Given as goal
 
 abbrev pub decreases-texts : goal.decreases-texts
-decreases-texts l = length l.document.texts.items - l.self.text
+decreases-texts l = vec_len l.document.texts - l.self.text

@@ -1,0 +1,12 @@
+-- What contracts of private functions speak of. No public contract cites it.
+pub mod TermNames
+pub mod Meanings
+pub mod SignTokens
+pub mod DraftTokens
+pub mod Walks
+pub mod ElementsMeant
+pub mod PrintedTerms
+pub mod Terms
+pub mod SchemaElements
+pub mod Layouts
+pub mod Translation

@@ -1,0 +1,32 @@
+-- Elements of the code, and what they mean.
+use Rattle.std.specs.Prelude.{◌≡◌, Some, List, map, is_some, codes}
+use Rattle.rn_xml.specs.Infoset.{Attribute}
+use Rattle.rn_xml.specs.TableRows.{rows_of}
+use Rattle.rn_xml.specs.DocumentTrees.{attribute_of}
+use Rattle.rn_xml.specs.declared.document.XmlElement.{XmlElement}
+use Rattle.rn_xml.specs.declared.document.XmlDocument.{XmlDocument}
+use Rattle.rn_translate.specs.inside.SchemaElements.{value_of}
+use Rattle.rn_translate.specs.inside.Layouts.{Written}
+use Rattle.rn_translate.specs.inside.Meanings.{uri_meant}
+use Rattle.rn_translate.specs.declared.translator.Open.{Open}
+use Rattle.rn_translate.specs.declared.translator.Translator.{Translator}
+
+-- the attributes of an element
+abbrev pub attributes_at : XmlDocument → XmlElement → List Attribute
+attributes_at d row = map (attribute_of d) (rows_of row.attributes d.attributes.items)
+
+-- the open element is what is written
+pub record IsMeant (t : Translator) (row : XmlElement) (o : Open) (e : Written) : Type 0 where
+  pub kind : o.holder.kind ≡ e.kind
+  pub named : o.holder.is_named ≡ is_some (value_of (codes "name") e.attributes)
+  pub attributes : e.attributes ≡ attributes_at t.document.now row
+  pub count : o.children.count ≡ e.count
+  pub except : o.children.has_except ≡ e.has_except
+  pub standing : o.place.standing ≡ e.place.standing
+  pub is_first : o.place.is_first ≡ e.place.is_first
+  pub is_last : o.place.is_last ≡ e.place.is_last
+  pub is_root : o.place.is_root ≡ e.place.is_root
+  pub default : uri_meant t.uris t.default ≡ Some e.default
+  pub namespace : uri_meant t.uris o.context.namespace ≡ Some e.context.namespace
+  pub library : uri_meant t.uris o.context.library ≡ Some e.context.library
+  pub bare : uri_meant t.uris o.context.bare ≡ Some e.context.bare
