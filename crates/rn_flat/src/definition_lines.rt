@@ -3,7 +3,6 @@ use crate::unreached::unreached_names;
 use rn_assemble::Grammar;
 use rn_files::{Position, SourceFile};
 use rn_lift::Lifted;
-use rn_modset::ModuleSet;
 use rn_outline::{FilePartKind, name_in, read_outline};
 use rn_report::{DefinitionPlace, definition_places, push_printable};
 use rn_text::{is_keyword, tokens};
@@ -28,11 +27,10 @@ fn byte_of(place: &DefinitionPlace) -> (usize, usize) {
 
 /// A line for each definition that the start doesn't reach: `FILE:LINE:COLUMN: NAME`, in the order of the names of the
 /// files' modules and of their texts. A definition that has several names, as its file is used in several ways, is told
-/// where the start reaches none of them. Those that an include overrides are not told. `set` has the modules.
+/// where the start reaches none of them. Those that an include overrides are not told.
 pub fn unused_text(
     alloc: Global,
     grammar: &Grammar,
-    set: &ModuleSet,
     lifted: &Lifted,
     files: &[SourceFile],
 ) -> Result<String, AllocError> {
@@ -40,14 +38,13 @@ pub fn unused_text(
     if unreached.is_empty() {
         return Ok(String::new(alloc));
     }
-    unused_lines(alloc, unreached, set, lifted, files)
+    unused_lines(alloc, unreached, lifted, files)
 }
 
 /// The lines of the definitions of these names.
 fn unused_lines(
     alloc: Global,
     names: Vec<String>,
-    set: &ModuleSet,
     lifted: &Lifted,
     files: &[SourceFile],
 ) -> Result<String, AllocError> {
@@ -55,7 +52,7 @@ fn unused_lines(
     for name in names {
         unreached.insert(name)?;
     }
-    let places = definition_places(alloc, files, lifted, set)?;
+    let places = definition_places(alloc, files, lifted)?;
     let mut lines = String::new(alloc);
     for one in unused_definitions(alloc, &unreached, places.as_slice(), files)? {
         let position = Position {
@@ -131,15 +128,14 @@ fn push_place(
 
 /// For each name of the schema a line for each of its definitions: the name as the schema writes it, and
 /// `FILE:LINE:COLUMN`. The names are in the order of the schema, the definitions of one in that in which they are
-/// combined (RELAX NG 2001, 4.17). `set` has the modules.
+/// combined (RELAX NG 2001, 4.17).
 pub fn origins_text(
     alloc: Global,
     schema: &str,
-    set: &ModuleSet,
     lifted: &Lifted,
     files: &[SourceFile],
 ) -> Result<String, AllocError> {
-    let mut places = definition_places(alloc, files, lifted, set)?;
+    let mut places = definition_places(alloc, files, lifted)?;
     places.sort_by(|one, other| one.key.as_str().cmp(other.key.as_str()))?;
     let mut lines = String::new(alloc);
     for name in printed_names(alloc, schema)? {

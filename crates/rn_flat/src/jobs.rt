@@ -24,7 +24,7 @@ use rn_assemble::{Refusal, ShortGrammar, assemble_short};
 use rn_files::{Asked, Files, LinkedFiles, Map, SourceFile, Sources, read_files, sources_of};
 use rn_lift::Lifted;
 use rn_merge::{Sink, merge};
-use rn_modset::{ModuleSet, write_bundle};
+use rn_modset::write_bundle;
 use rn_report::{Format, MessageKind, refusal_messages};
 use rn_rng::{XmlFault, schema_xml};
 use std::alloc::{AllocError, Global};
@@ -290,8 +290,7 @@ fn schema_text(alloc: Global, sources: Sources, format: Format) -> Result<String
     let lifted = lift_files(alloc, &sources, format)?;
     let mut files = sources.files;
     give_up_outlines(alloc, &mut files);
-    let set = module_set(alloc, &lifted, files.as_slice(), format)?;
-    schema(alloc, &set, &lifted, files.as_slice(), format)
+    schema(alloc, &lifted, files.as_slice(), format)
 }
 
 /// Drops the outlines of lifted files: messages need their names and texts alone.
@@ -324,9 +323,8 @@ fn unused(alloc: Global, sources: &Sources, format: Format) -> Result<String, Fl
 {
     let lifted = lift_files(alloc, sources, format)?;
     let files = sources.files.as_slice();
-    let set = module_set(alloc, &lifted, files, format)?;
-    let grammar = grammar(alloc, &set, &lifted, files, format)?;
-    Ok(unused_text(alloc, &grammar.grammar, &set, &lifted, files)?)
+    let grammar = grammar(alloc, &lifted, files, format)?;
+    Ok(unused_text(alloc, &grammar.grammar, &lifted, files)?)
 }
 
 /// The lines that tell where the definitions of the schema are.
@@ -335,33 +333,30 @@ fn origins(alloc: Global, sources: &Sources, format: Format) -> Result<Vec<u8>, 
 {
     let lifted = lift_files(alloc, sources, format)?;
     let files = sources.files.as_slice();
-    let set = module_set(alloc, &lifted, files, format)?;
-    let schema = schema(alloc, &set, &lifted, files, format)?;
-    Ok(origins_text(alloc, schema.as_str(), &set, &lifted, files)?.into_bytes())
+    let schema = schema(alloc, &lifted, files, format)?;
+    Ok(origins_text(alloc, schema.as_str(), &lifted, files)?.into_bytes())
 }
 
-/// The grammar of the modules, which the set has.
+/// The grammar of the modules.
 fn grammar(
     alloc: Global,
-    set: &ModuleSet,
     lifted: &Lifted,
     files: &[SourceFile],
     format: Format,
 ) -> Result<ShortGrammar, FlatFault>
-    ensures { IsSetOf lifted.now.modules.items set.now
-        → IfOk result (λ g. IsFlatGrammarOf lifted.now.modules.items
+    ensures { IfOk result (λ g. IsFlatGrammarOf lifted.now.modules.items
         (short_texts g.uris) (grammar_view g.grammar)) }
 {
-    match assemble_short(alloc, set) {
+    let set = module_set(alloc, lifted, files, format)?;
+    match assemble_short(alloc, &set) {
         Ok(grammar) => Ok(grammar),
-        Err(refusal) => Err(set_fault(alloc, set, lifted, files, &refusal, format)?),
+        Err(refusal) => Err(set_fault(alloc, lifted, files, &refusal, format)?),
     }
 }
 
 /// The fault of a set that is refused.
 fn set_fault(
     alloc: Global,
-    set: &ModuleSet,
     lifted: &Lifted,
     files: &[SourceFile],
     refusal: &Refusal,
@@ -370,23 +365,22 @@ fn set_fault(
     if *refusal == Refusal::Memory {
         return Ok(FlatFault::Memory);
     }
-    let told = refusal_messages(alloc, files, lifted, set, refusal)?;
+    let told = refusal_messages(alloc, files, lifted, refusal)?;
     fault_with_messages(alloc, files, &told, format)
 }
 
-/// The schema of the modules, which the set has.
+/// The schema of the modules.
 fn schema(
     alloc: Global,
-    set: &ModuleSet,
     lifted: &Lifted,
     files: &[SourceFile],
     format: Format,
 ) -> Result<String, FlatFault>
-    ensures { IsSetOf lifted.now.modules.items set.now
-        → IfOk result (λ text. IsFlatSchemaOf lifted.now.modules.items (string_bytes text)) }
+    ensures { IfOk result (λ text. IsFlatSchemaOf lifted.now.modules.items (string_bytes text)) }
 {
-    match merge(alloc, set) {
+    let set = module_set(alloc, lifted, files, format)?;
+    match merge(alloc, &set) {
         Ok(text) => Ok(text),
-        Err(refusal) => Err(set_fault(alloc, set, lifted, files, &refusal, format)?),
+        Err(refusal) => Err(set_fault(alloc, lifted, files, &refusal, format)?),
     }
 }

@@ -2,11 +2,11 @@
 use crate::flat_fault::FlatFault;
 use crate::gathering::{fault_with_messages, lift_fault, lift_sources, module_set};
 use crate::module_set::REVISION;
-use rn_assemble::{Diagnosis, Finding, Refusal, assemble_short, diagnose};
+use rn_assemble::{Refusal, assemble_short};
 use rn_files::{SourceFile, Sources};
 use rn_lift::Lifted;
 use rn_modset::{AddFault, Contribution, ModuleSet};
-use rn_report::{Format, refusal_messages_of_parts};
+use rn_report::{Format, Lacks, lacks_of, refusal_messages_of_parts};
 use rn_scopes::LiftFaultKind;
 use std::alloc::{AllocError, Global};
 
@@ -29,7 +29,7 @@ pub fn lint(alloc: Global, sources: &Sources, format: Format) -> Result<(), Flat
         Err(Refusal::NoStart | Refusal::Undefined { .. }) => {
             lint_completed(alloc, set, &lifted, files, format)
         }
-        Err(refusal) => Err(parts_fault(alloc, files, &lifted, &set, &refusal, format)?),
+        Err(refusal) => Err(parts_fault(alloc, files, &lifted, &refusal, format)?),
     }
 }
 
@@ -46,82 +46,51 @@ fn lint_completed(
     files: &[SourceFile],
     format: Format,
 ) -> Result<(), FlatFault> {
-    let Some(completed) = completed_set(alloc, set)? else {
-        return Ok(());
-    };
-    match assemble_short(alloc, &completed) {
-        Ok(_) | Err(Refusal::NoStart | Refusal::Undefined { .. }) => Ok(()),
-        Err(refusal) => {
-            let set = module_set(alloc, lifted, files, format)?;
-            Err(parts_fault(alloc, files, lifted, &set, &refusal, format)?)
-        }
-    }
-}
-
-/// The set with a module that defines what it lacks; `None` where that module can't be added.
-fn completed_set(alloc: Global, set: ModuleSet) -> Result<Option<ModuleSet>, AllocError> {
-    let text = match diagnose(alloc, &set, None) {
-        Ok(diagnosis) => completion(alloc, &diagnosis)?,
-        Err(Refusal::Memory) => return Err(AllocError),
-        Err(_) => return Ok(None),
-    };
-    let mut completed = set;
+    let mut set = set;
+    let text = completion(alloc, &lacks_of(alloc, lifted)?)?;
     let added = Contribution {
         name: String::from_str(alloc, ADDED)?,
         revision: REVISION,
         text: Some(text.into_bytes()),
     };
-    match completed.add(added) {
-        Ok(_) => Ok(Some(completed)),
-        Err((_, AddFault::Memory)) => Err(AllocError),
-        Err(_) => Ok(None),
+    match set.add(added) {
+        Ok(_) => {}
+        Err((_, AddFault::Memory)) => return Err(FlatFault::Memory),
+        Err(_) => return Ok(()),
+    }
+    match assemble_short(alloc, &set) {
+        Ok(_) | Err(Refusal::NoStart | Refusal::Undefined { .. }) => Ok(()),
+        Err(refusal) => Err(parts_fault(alloc, files, lifted, &refusal, format)?),
     }
 }
 
 /// A module that defines what is lacking. Where the start is, it refers to each definition, so that all are looked at.
-fn completion(alloc: Global, diagnosis: &Diagnosis<'_>) -> Result<String, AllocError> {
+fn completion(alloc: Global, lacks: &Lacks) -> Result<String, AllocError> {
     let mut text = String::new(alloc);
-    let mut lacks_start = false;
-    for finding in &diagnosis.findings {
-        match finding {
-            Finding::Undefined { name, .. } => {
-                text.push_str(format!(in alloc; "\\{name} = notAllowed\n")?.as_str())?;
-            }
-            Finding::NoStart => lacks_start = true,
-            _ => {}
-        }
+    for name in &lacks.names {
+        text.push_str(format!(in alloc; "\\{name} = notAllowed\n")?.as_str())?;
     }
-    if lacks_start {
-        push_start(alloc, diagnosis, &mut text)?;
+    if lacks.start {
+        text.push_str("start = notAllowed")?;
+        for name in &lacks.defined {
+            text.push_str(format!(in alloc; " | \\{name}")?.as_str())?;
+        }
+        text.push_str("\n")?;
     }
     Ok(text)
 }
 
-/// Appends a start that refers to each name that is defined.
-fn push_start(
-    alloc: Global,
-    diagnosis: &Diagnosis<'_>,
-    text: &mut String,
-) -> Result<(), AllocError> {
-    text.push_str("start = notAllowed")?;
-    for name in diagnosis.defined_names(alloc)? {
-        text.push_str(format!(in alloc; " | \\{name}")?.as_str())?;
-    }
-    text.push_str("\n")
-}
-
-/// The fault of parts of a schema that are refused; the set has their modules.
+/// The fault of parts of a schema that are refused.
 fn parts_fault(
     alloc: Global,
     files: &[SourceFile],
     lifted: &Lifted,
-    set: &ModuleSet,
     refusal: &Refusal,
     format: Format,
 ) -> Result<FlatFault, AllocError> {
     if *refusal == Refusal::Memory {
         return Ok(FlatFault::Memory);
     }
-    let told = refusal_messages_of_parts(alloc, files, lifted, set, refusal)?;
+    let told = refusal_messages_of_parts(alloc, files, lifted, refusal)?;
     fault_with_messages(alloc, files, &told, format)
 }

@@ -1,13 +1,16 @@
 // What is told of a refusal, before it is a sentence: the name that it is about, and the sites that are told.
-use crate::placing::sites::{Site, Sites, name_of_key};
+use super::further_refusals::{FurtherRefusal, RefusalKind, has_method};
+use crate::placing::brought::{Instance, parting_includes};
+use crate::placing::defined::{BroughtDefinition, Defined, brought_definitions, group_of};
+use crate::placing::sites::{Site, Sites, include_around};
 use crate::report::Page;
-use rn_assemble::{Diagnosis, Finding, IncludePlace, Refusal, diagnose};
 use rn_lift::Lifted;
-use rn_modset::ModuleSet;
+use rn_outline::OutlineMethod;
 use std::alloc::{AllocError, Global};
 use std::collections::BTreeMap;
 
-/// What sentences are made from: the files, the modules and what these are made of, and what is known of their set.
+/// What sentences are made from: the files, the modules and what these are made of, how they come to a schema, and the
+/// definitions that take part in it.
 #[derive(Clone, Copy)]
 pub struct Telling<'a> {
     /// Where sentences are held.
@@ -16,30 +19,19 @@ pub struct Telling<'a> {
     pub pages: &'a [Page<'a>],
     /// The modules.
     pub sites: &'a Sites<'a>,
-    /// What is known of their set.
-    pub diagnosis: &'a Diagnosis<'a>,
+    /// The instances of the modules, as they come to a schema.
+    pub instances: &'a [Instance],
+    /// For each module, the numbers of its instances.
+    pub own: &'a [Vec<usize>],
+    /// The definitions that take part in the schema.
+    pub defined: &'a [Defined<'a>],
 }
 
-/// The kind of a refusal of which all can be found.
+/// What is told of a refusal.
 #[derive(Clone, Copy, Debug, PartialEq, Eq, PartialOrd, Ord)]
-pub enum FindingKind {
-    /// An include overrides what is not there (RELAX NG 2001, 4.7).
-    Override,
-    /// A name is defined twice by `=` (RELAX NG 2001, 4.17).
-    PlainTwice,
-    /// A name is combined by both methods (RELAX NG 2001, 4.17).
-    MixedMethods,
-    /// There is no start (RELAX NG 2001, 4.18).
-    NoStart,
-    /// A name is referred to and not defined (RELAX NG 2001, 4.18).
-    Undefined,
-}
-
-/// What is told of a finding.
-#[derive(Clone, Copy, Debug, PartialEq, Eq, PartialOrd, Ord)]
-pub struct ToldFinding<'v> {
+pub struct Finding<'v> {
     /// The kind of the refusal.
-    pub kind: FindingKind,
+    pub kind: RefusalKind,
     /// The key or the name, as the file writes it.
     pub name: &'v str,
     /// Where the refusal is told; `None` where that is not found.
@@ -48,84 +40,6 @@ pub struct ToldFinding<'v> {
     pub there: Option<Site>,
     /// The other one of two includes by which a definition comes twice.
     pub elsewhere: Option<Site>,
-}
-
-/// Whether the whole schema is looked at, or parts of one, which may lack a start and definitions.
-#[derive(Clone, Copy, Debug, PartialEq, Eq)]
-pub enum Extent {
-    /// All of a schema.
-    Whole,
-    /// Parts of a schema: neither the lack of a start nor a name that nothing defines is a fault.
-    Parts,
-}
-
-impl Extent {
-    /// Whether such a finding is a fault.
-    pub fn counts(self, finding: &Finding<'_>) -> bool {
-        match finding {
-            Finding::NoStart | Finding::Undefined { .. } => self == Extent::Whole,
-            _ => true,
-        }
-    }
-}
-
-/// What is known of the set, and of a refusal of it; `None` where it is refused for its texts or includes.
-pub fn diagnosis_of<'s>(
-    alloc: Global,
-    set: &'s ModuleSet,
-    refusal: Option<&Refusal>,
-) -> Result<Option<Diagnosis<'s>>, AllocError> {
-    match diagnose(alloc, set, refusal) {
-        Ok(diagnosis) => Ok(Some(diagnosis)),
-        Err(Refusal::Memory) => Err(AllocError),
-        Err(_) => Ok(None),
-    }
-}
-
-/// The findings from the one on for which the set is refused; nothing for a refusal of another kind.
-pub fn findings_from<'d, 's>(
-    diagnosis: &'d Diagnosis<'s>,
-    sites: &Sites<'_>,
-    refusal: &Refusal,
-) -> &'d [Finding<'s>] {
-    let findings = diagnosis.findings.as_slice();
-    let first = findings.iter().position(|finding| is_refused_for(
-        diagnosis, sites, finding, refusal,
-    ));
-    match first {
-        Some(first) => findings.get(first..).unwrap_or(&[]),
-        None => &[],
-    }
-}
-
-/// Whether the refusal is for the finding.
-fn is_refused_for(
-    diagnosis: &Diagnosis<'_>,
-    sites: &Sites<'_>,
-    finding: &Finding<'_>,
-    refusal: &Refusal,
-) -> bool {
-    match (finding, refusal) {
-        (
-            Finding::Override { key, component, .. },
-            Refusal::Override {
-                module,
-                key: refused,
-            },
-        ) => {
-            sites.name(component.module.0) == module.as_str()
-                && diagnosis.name(*key) == name_of_key(refused)
-        }
-        (Finding::PlainTwice { key, .. }, Refusal::PlainTwice { key: refused })
-        | (Finding::MixedMethods { key, .. }, Refusal::MixedMethods { key: refused }) => {
-            diagnosis.name(*key) == name_of_key(refused)
-        }
-        (Finding::NoStart, Refusal::NoStart) => true,
-        (Finding::Undefined { name, .. }, Refusal::Undefined { name: refused }) => {
-            *name == refused.as_str()
-        }
-        _ => false,
-    }
 }
 
 /// A key as the file writes it.
@@ -137,76 +51,111 @@ pub fn spelled_key<'k>(telling: &Telling<'_>, key: &'k str) -> &'k str {
     }
 }
 
-/// What is told of a finding.
-pub fn told_finding<'a>(telling: &Telling<'a>, finding: &Finding<'a>) -> ToldFinding<'a> {
-    let sites = telling.sites;
-    let told = |kind, name, here, there| ToldFinding {
-        kind,
-        name: spelled_key(telling, name),
-        here,
-        there,
+/// The definitions of a key, as they come to the schema.
+pub fn brought_definitions_of(
+    telling: &Telling<'_>,
+    key: &str,
+) -> Result<Vec<BroughtDefinition>, AllocError> {
+    brought_definitions(
+        telling.alloc,
+        telling.sites,
+        telling.instances,
+        telling.own,
+        group_of(telling.defined, key),
+    )
+}
+
+/// What is told of a refusal.
+pub fn finding_of<'v>(
+    telling: &Telling<'_>,
+    refusal: FurtherRefusal<'v>,
+) -> Result<Finding<'v>, AllocError> {
+    let finding = Finding {
+        kind: refusal.kind,
+        name: spelled_key(telling, refusal.key),
+        here: refusal.site,
+        there: None,
         elsewhere: None,
     };
-    match finding {
-        Finding::Override {
-            key,
-            component,
-            include,
-        } => told(
-            FindingKind::Override,
-            telling.diagnosis.name(*key),
-            sites.definition(*component),
-            sites.include(*include),
-        ),
-        Finding::PlainTwice {
-            key,
-            first,
-            second,
-            parting,
-        } => {
-            let key = telling.diagnosis.name(*key);
-            let here = sites.definition(*first);
-            let there = sites.definition(*second).filter(|_| first != second);
-            with_parting(
-                sites,
-                told(FindingKind::PlainTwice, key, here, there),
-                *parting,
-            )
-        }
-        Finding::MixedMethods {
-            key,
-            choice,
-            interleave,
-        } => told(
-            FindingKind::MixedMethods,
-            telling.diagnosis.name(*key),
-            sites.definition(*choice),
-            sites.definition(*interleave),
-        ),
-        Finding::NoStart => told(FindingKind::NoStart, "", None, None),
-        Finding::Undefined { name, reference } => told(
-            FindingKind::Undefined,
-            name,
-            sites.reference(*reference),
-            None,
-        ),
+    match refusal.kind {
+        RefusalKind::Override => Ok(with_include(telling, finding)),
+        RefusalKind::PlainTwice => with_plain_ones(telling, finding, refusal.key),
+        RefusalKind::MixedMethods => with_both_methods(telling, finding, refusal.key),
+        RefusalKind::NoStart | RefusalKind::Undefined => Ok(finding),
     }
 }
 
-/// The finding with the includes at which the ways part by which a definition comes twice.
-fn with_parting<'v>(
-    sites: &Sites<'_>,
-    told: ToldFinding<'v>,
-    parting: Option<(IncludePlace, IncludePlace)>,
-) -> ToldFinding<'v> {
-    match parting {
-        Some((one, other)) => ToldFinding {
-            there: sites.include(one),
-            elsewhere: sites.include(other),
-            ..told
-        },
-        None => told,
+/// The include of a definition that overrides.
+fn including(sites: &Sites<'_>, definition: Site) -> Option<Site> {
+    let part = include_around(sites.part(definition)?)?;
+    Some(Site {
+        module: definition.module,
+        part,
+    })
+}
+
+/// The finding with the include of the definition that overrides.
+fn with_include<'v>(telling: &Telling<'_>, finding: Finding<'v>) -> Finding<'v> {
+    let mut finding = finding;
+    finding.there = finding
+        .here
+        .and_then(|definition| including(telling.sites, definition));
+    finding
+}
+
+/// The finding with two definitions by `=`; where they are one that comes twice, with the includes at which its ways
+/// part.
+fn with_plain_ones<'v>(
+    telling: &Telling<'_>,
+    finding: Finding<'v>,
+    key: &str,
+) -> Result<Finding<'v>, AllocError> {
+    let mut finding = finding;
+    let found = brought_definitions_of(telling, key)?;
+    let mut plain = found.iter().filter(|one| has_method(
+        telling.sites,
+        one.site,
+        OutlineMethod::Plain,
+    ));
+    if let (Some(first), Some(second)) = (plain.next(), plain.next()) {
+        finding.here = Some(first.site);
+        if first.site != second.site {
+            finding.there = Some(second.site);
+        } else if let Some((one, other)) = parting_includes(
+            telling.instances,
+            first.instance,
+            second.instance,
+        ) {
+            finding.there = Some(one);
+            finding.elsewhere = Some(other);
+        }
     }
+    Ok(finding)
+}
+
+/// The first definition of those by the method.
+fn first_by(
+    telling: &Telling<'_>,
+    found: &[BroughtDefinition],
+    method: OutlineMethod,
+) -> Option<Site> {
+    let one = found
+        .iter()
+        .find(|one| has_method(telling.sites, one.site, method))?;
+    Some(one.site)
+}
+
+/// The finding with the first definitions by `|=` and by `&=`.
+fn with_both_methods<'v>(
+    telling: &Telling<'_>,
+    finding: Finding<'v>,
+    key: &str,
+) -> Result<Finding<'v>, AllocError> {
+    let mut finding = finding;
+    let found = brought_definitions_of(telling, key)?;
+    finding.here = first_by(telling, found.as_slice(), OutlineMethod::Choice);
+    finding.there = first_by(telling, found.as_slice(), OutlineMethod::Interleave);
+    Ok(finding)
 }
 
 /// For each module the first one that is made of the same grammar of the same file. Parts of one number come from one
@@ -242,8 +191,8 @@ fn site_alike(firsts: &[usize], site: Site) -> Site {
 }
 
 /// The finding with sites in the first modules that are alike, so that all of which the same is told are one.
-pub fn finding_alike<'v>(firsts: &[usize], finding: ToldFinding<'v>) -> ToldFinding<'v> {
-    ToldFinding {
+pub fn finding_alike<'v>(firsts: &[usize], finding: Finding<'v>) -> Finding<'v> {
+    Finding {
         kind: finding.kind,
         name: finding.name,
         here: finding.here.map(|site| site_alike(firsts, site)),

@@ -1,20 +1,17 @@
 // The nearest of the names that a schema has, in the place of one that it lacks.
-use super::findings::{Telling, ToldFinding, spelled_key};
+use super::findings::{Finding, Telling, spelled_key};
 use super::near_names::NearestName;
-use crate::placing::sites::{Site, Sites, key_of};
-use std::alloc::{AllocError, Global};
-use std::collections::BTreeSet;
+use crate::placing::brought::provided_keys;
+use crate::placing::sites::Site;
+use std::alloc::AllocError;
 
 /// A name that is not defined, with the nearest one of its grammar.
-pub fn undefined_name(
-    telling: &Telling<'_>,
-    finding: ToldFinding<'_>,
-) -> Result<String, AllocError> {
+pub fn undefined_name(telling: &Telling<'_>, finding: Finding<'_>) -> Result<String, AllocError> {
     let mut nearest = NearestName::new();
     let used = finding.here.and_then(|site| telling.sites.used_name(site));
     let stem = stem_of(used, finding.name);
-    for key in telling.diagnosis.defined_names(telling.alloc)? {
-        offer_key(telling, finding.name, stem, key, &mut nearest)?;
+    for one in telling.defined {
+        offer_key(telling, finding.name, stem, one.key, &mut nearest)?;
     }
     nearest.sentence(telling.alloc, finding.name)
 }
@@ -44,7 +41,7 @@ fn offer_key<'t>(
 /// What is said of the nearest name that the file that is included there defines, with what it includes.
 pub fn provided_advice(
     telling: &Telling<'_>,
-    finding: ToldFinding<'_>,
+    finding: Finding<'_>,
     include: Site,
 ) -> Result<String, AllocError> {
     let mut nearest = NearestName::new();
@@ -56,40 +53,4 @@ pub fn provided_advice(
         }
     }
     nearest.advice(telling.alloc)
-}
-
-/// The keys that a module and all that it includes define, in order.
-fn provided_keys<'v>(
-    alloc: Global,
-    sites: &'v Sites<'_>,
-    module: usize,
-) -> Result<BTreeSet<&'v str>, AllocError> {
-    let mut keys = BTreeSet::new(alloc);
-    let mut met = vec![in alloc; module]?;
-    let mut at = 0;
-    while at < met.len() {
-        provide_keys(sites, met[at], &mut met, &mut keys)?;
-        at += 1;
-    }
-    Ok(keys)
-}
-
-/// Adds the keys that a module defines, and the modules that it includes and that weren't met.
-fn provide_keys<'v>(
-    sites: &'v Sites<'_>,
-    module: usize,
-    met: &mut Vec<usize>,
-    keys: &mut BTreeSet<&'v str>,
-) -> Result<(), AllocError> {
-    let text = sites.text(module);
-    for (part, one) in sites.parts(module).iter().enumerate() {
-        if let Some(key) = key_of(text, one) {
-            keys.insert(key)?;
-        }
-        match sites.included_module(Site { module, part }) {
-            Some(included) if !met.contains(&included) => met.push(included)?,
-            _ => {}
-        }
-    }
-    Ok(())
 }

@@ -1,20 +1,32 @@
 // What the modules define, refer to and include, and where.
+use super::outside_names::outside_names;
 use crate::report::Spot;
-use rn_assemble::{ComponentPlace, IncludePlace, Key, ReferencePlace};
+use rn_assemble::Key;
 use rn_lift::Lifted;
-use rn_outline::{FilePart, FilePartKind, OutlineFault, name_in, read_outline};
+use rn_outline::{FilePart, FilePartKind, OutlineFault, OutlineMethod, name_in, read_outline};
 use rn_text::{TextFault, tokens};
 use std::alloc::{AllocError, Global};
+
+/// A definition of an include that overrides.
+#[derive(Debug, Drop, PartialEq, Eq, PartialOrd, Ord)]
+pub struct Overriding {
+    /// The number of the part that is the include.
+    pub include: usize,
+    /// The key that the definition overrides: a name, or nothing for the start.
+    pub key: String,
+    /// The number of the part that is the definition.
+    pub part: usize,
+}
 
 /// What a module is made of.
 #[derive(Debug, Drop)]
 pub struct ModuleSites {
     /// The definitions, references and includes of the module, in the order of its text.
     pub parts: Vec<FilePart>,
-    /// The numbers of the parts that are definitions, in order.
-    pub definitions: Vec<usize>,
-    /// The numbers of the parts that are includes, in order.
-    pub includes: Vec<usize>,
+    /// What the includes of the module override, in the order of includes and keys.
+    pub overrides: Vec<Overriding>,
+    /// Where names begin that are outside elements, in order.
+    pub outside: Vec<usize>,
 }
 
 /// The modules, and what each is made of.
@@ -52,10 +64,26 @@ pub fn key_of<'a>(text: &'a str, part: &FilePart) -> Option<&'a str> {
     }
 }
 
-/// The name that a part refers to.
-fn use_of<'a>(text: &'a str, part: &FilePart) -> Option<&'a str> {
+/// How a definition is combined.
+pub fn method_of(part: &FilePart) -> Option<OutlineMethod> {
     match &part.kind {
-        FilePartKind::Reference { name } => Some(name_in(text, *name)),
+        FilePartKind::Define { method, .. } | FilePartKind::Start { method, .. } => Some(*method),
+        _ => None,
+    }
+}
+
+/// The number of the part that is the include of a definition that overrides.
+pub fn include_around(part: &FilePart) -> Option<usize> {
+    match &part.kind {
+        FilePartKind::Define { within, .. } | FilePartKind::Start { within, .. } => *within,
+        _ => None,
+    }
+}
+
+/// The name that a part refers to, and where it begins.
+pub fn use_of<'a>(text: &'a str, part: &FilePart) -> Option<(&'a str, usize)> {
+    match &part.kind {
+        FilePartKind::Reference { name } => Some((name_in(text, *name), name.from)),
         _ => None,
     }
 }
@@ -78,38 +106,42 @@ pub fn sites_of(alloc: Global, lifted: &Lifted) -> Result<Sites<'_>, AllocError>
 }
 
 fn module_sites(alloc: Global, text: &str) -> Result<ModuleSites, AllocError> {
+    let mut sites = ModuleSites {
+        parts: Vec::new(alloc),
+        overrides: Vec::new(alloc),
+        outside: Vec::new(alloc),
+    };
     let tokens = match tokens(alloc, text.as_bytes()) {
         Ok(tokens) => tokens,
         Err(TextFault::Memory) => return Err(AllocError),
-        Err(_) => return sites_of_parts(alloc, text, Vec::new(alloc)),
+        Err(_) => return Ok(sites),
     };
     match read_outline(alloc, text, tokens.as_slice()) {
-        Ok(outline) => sites_of_parts(alloc, text, outline.parts),
+        Ok(outline) => {
+            sites.overrides = overrides(alloc, text, outline.parts.as_slice())?;
+            sites.outside = outside_names(alloc, tokens.as_slice())?;
+            sites.parts = outline.parts;
+            Ok(sites)
+        }
         Err(OutlineFault::Memory) => Err(AllocError),
-        Err(_) => sites_of_parts(alloc, text, Vec::new(alloc)),
+        Err(_) => Ok(sites),
     }
 }
 
-/// What a module of these parts is made of.
-fn sites_of_parts(
-    alloc: Global,
-    text: &str,
-    parts: Vec<FilePart>,
-) -> Result<ModuleSites, AllocError> {
-    let mut definitions = Vec::new(alloc);
-    let mut includes = Vec::new(alloc);
+/// What the includes override, in the order of includes and keys.
+fn overrides(alloc: Global, text: &str, parts: &[FilePart]) -> Result<Vec<Overriding>, AllocError> {
+    let mut overrides = Vec::new(alloc);
     for (number, part) in parts.iter().enumerate() {
-        if key_of(text, part).is_some() {
-            definitions.push(number)?;
-        } else if include_of(part).is_some() {
-            includes.push(number)?;
+        if let (Some(include), Some(key)) = (include_around(part), key_of(text, part)) {
+            overrides.push(Overriding {
+                include,
+                key: String::from_str(alloc, key)?,
+                part: number,
+            })?;
         }
     }
-    Ok(ModuleSites {
-        parts,
-        definitions,
-        includes,
-    })
+    overrides.sort()?;
+    Ok(overrides)
 }
 
 impl Sites<'_> {
@@ -159,32 +191,39 @@ impl Sites<'_> {
     /// The name that is referred to at a site.
     pub fn used_name(&self, site: Site) -> Option<&str> {
         let part = self.part(site)?;
-        use_of(self.text(site.module), part)
+        use_of(self.text(site.module), part).map(|(name, _)| name)
     }
 
-    /// Where a definition is.
-    pub fn definition(&self, place: ComponentPlace) -> Option<Site> {
-        let module = place.module.0;
-        let part = *self.modules.get(module)?.definitions.get(place.number)?;
-        Some(Site { module, part })
+    /// Whether a name that begins at the byte is outside elements.
+    pub fn is_outside(&self, module: usize, at: usize) -> bool {
+        match self.modules.get(module) {
+            Some(held) => held.outside.binary_search(&at).is_ok(),
+            None => false,
+        }
     }
 
-    /// Where an include is.
-    pub fn include(&self, place: IncludePlace) -> Option<Site> {
-        let module = place.module.0;
-        let part = *self.modules.get(module)?.includes.get(place.number)?;
-        Some(Site { module, part })
+    /// Whether the include overrides the key.
+    pub fn overrides(&self, module: usize, include: usize, key: &str) -> bool {
+        match self.modules.get(module) {
+            Some(held) => held
+                .overrides
+                .binary_search_by(|one| one.include.cmp(&include).then(one.key.as_str().cmp(&key)))
+                .is_ok(),
+            None => false,
+        }
     }
 
-    /// Where a reference is: those of a definition stand behind it.
-    pub fn reference(&self, place: ReferencePlace) -> Option<Site> {
-        let Site { module, part } = self.definition(place.component)?;
-        let text = self.text(module);
-        let behind = self.parts(module).iter().enumerate().skip(part);
-        let (part, _) = behind
-            .filter(|(_, part)| use_of(text, part).is_some())
-            .nth(place.number)?;
-        Some(Site { module, part })
+    /// What the include overrides, in the order of the keys.
+    pub fn overridden(&self, include: Site) -> &[Overriding] {
+        match self.modules.get(include.module) {
+            Some(held) => {
+                let all = held.overrides.as_slice();
+                let from = all.partition_point(|one| one.include < include.part);
+                let to = all.partition_point(|one| one.include <= include.part);
+                all.get(from..to).unwrap_or(&[])
+            }
+            None => &[],
+        }
     }
 
     /// The module that a site includes.

@@ -5,49 +5,49 @@ ghost use Rattle.rn_report.specs.Messages.{IsFew};
 use super::file_messages::text_messages;
 use super::general_sentences::{general_kind, general_sentence};
 use crate::finding::findings::{
-    Extent, FindingKind, Telling, ToldFinding, diagnosis_of, finding_alike, findings_from,
-    first_alike, spelled_key, told_finding,
+    Finding, Telling, brought_definitions_of, finding_alike, finding_of, first_alike, spelled_key,
 };
+use crate::finding::further_refusals::{Extent, FurtherRefusal, RefusalKind, refusals_from};
 use crate::finding::nearest_keys::{provided_advice, undefined_name};
 use crate::message_kinds::MessageKind;
+use crate::placing::brought::{instances, instances_of};
+use crate::placing::defined::taking_part;
+use crate::placing::loop_sites::loop_of;
 use crate::placing::sites::{Site, name_of_key, sites_of};
 use crate::report::{
     MAX_TOLD, Message, Messages, Page, Spot, is_xml_page, place_text, shown_name, source_pages,
 };
-use rn_assemble::{Diagnosis, Finding, Refusal};
+use rn_assemble::Refusal;
 use rn_files::SourceFile;
 use rn_lift::Lifted;
-use rn_modset::ModuleSet;
 use std::alloc::{AllocError, Global};
 use std::collections::BTreeSet;
 
-/// What is told of modules that are refused; `set` has them. Where texts are at fault, it is the fault of each text; else
-/// the refusal, at the first place that it speaks of, and then those that would be answered once it is mended, of the
-/// kinds of which all can be found. What is the same for several modules of one file is told once.
+/// What is told of modules that are refused. Where texts are at fault, it is the fault of each text; else the refusal,
+/// at the first place that it speaks of, and then those that would be answered once it is mended, of the kinds of which
+/// all can be found. What is the same for several modules of one file is told once.
 pub fn refusal_messages(
     alloc: Global,
     files: &[SourceFile],
     lifted: &Lifted,
-    set: &ModuleSet,
     refusal: &Refusal,
 ) -> Result<Messages, AllocError>
     ensures { IfOk result IsFew }
 {
-    messages_to(alloc, files, lifted, set, refusal, Extent::Whole)
+    messages_to(alloc, files, lifted, refusal, Extent::Whole)
 }
 
 /// What is told of modules that are parts of a schema and are refused, as [`refusal_messages`] tells it, but for the lack
-/// of a start and names that nothing defines. `set` has the modules, without what completes them.
+/// of a start and names that nothing defines.
 pub fn refusal_messages_of_parts(
     alloc: Global,
     files: &[SourceFile],
     lifted: &Lifted,
-    set: &ModuleSet,
     refusal: &Refusal,
 ) -> Result<Messages, AllocError>
     ensures { IfOk result IsFew }
 {
-    messages_to(alloc, files, lifted, set, refusal, Extent::Parts)
+    messages_to(alloc, files, lifted, refusal, Extent::Parts)
 }
 
 /// What is told of modules that are refused.
@@ -55,7 +55,6 @@ fn messages_to(
     alloc: Global,
     files: &[SourceFile],
     lifted: &Lifted,
-    set: &ModuleSet,
     refusal: &Refusal,
     extent: Extent,
 ) -> Result<Messages, AllocError>
@@ -67,36 +66,24 @@ fn messages_to(
             return Ok(told);
         }
     }
-    match diagnosis_of(alloc, set, Some(refusal))? {
-        Some(diagnosis) => diagnosis_messages(alloc, files, lifted, &diagnosis, refusal, extent),
-        None => Messages::of_message(alloc, general_message(alloc, refusal)?),
-    }
-}
-
-/// What is told of modules that are refused, of whose set that is known.
-fn diagnosis_messages(
-    alloc: Global,
-    files: &[SourceFile],
-    lifted: &Lifted,
-    diagnosis: &Diagnosis<'_>,
-    refusal: &Refusal,
-    extent: Extent,
-) -> Result<Messages, AllocError>
-    ensures { IfOk result IsFew }
-{
     let pages = source_pages(alloc, files)?;
     let sites = sites_of(alloc, lifted)?;
+    let instances = instances(alloc, &sites)?;
+    let own = instances_of(alloc, &sites, instances.as_slice())?;
+    let defined = taking_part(alloc, &sites, instances.as_slice(), own.as_slice())?;
+    let found = refusals_from(alloc, &sites, defined.as_slice(), refusal, extent)?;
     let telling = Telling {
         alloc,
         pages: pages.as_slice(),
         sites: &sites,
-        diagnosis,
+        instances: instances.as_slice(),
+        own: own.as_slice(),
+        defined: defined.as_slice(),
     };
-    let found = findings_from(diagnosis, &sites, refusal);
     if found.is_empty() {
         Messages::of_message(alloc, refusal_message(&telling, refusal)?)
     } else {
-        tell(&telling, found, extent)
+        tell(&telling, found.as_slice())
     }
 }
 
@@ -115,31 +102,27 @@ fn is_of_text(refusal: &Refusal) -> bool {
     )
 }
 
-/// The messages of these findings, as far as they are faults.
-fn tell(
-    telling: &Telling<'_>,
-    findings: &[Finding<'_>],
-    extent: Extent,
-) -> Result<Messages, AllocError>
+/// The messages of these refusals.
+fn tell(telling: &Telling<'_>, refusals: &[FurtherRefusal<'_>]) -> Result<Messages, AllocError>
     ensures { IfOk result IsFew }
 {
     let firsts = first_alike(telling.alloc, telling.sites.lifted)?;
     let mut seen = BTreeSet::new(telling.alloc);
-    let mut messages = Messages::new(telling.alloc);
-    for finding in findings {
-        let told = told_finding(telling, finding);
-        if extent.counts(finding) && seen.insert(finding_alike(firsts.as_slice(), told))? {
-            tell_finding(telling, &mut messages, told)?;
+    let mut told = Messages::new(telling.alloc);
+    for refusal in refusals {
+        let finding = finding_of(telling, *refusal)?;
+        if seen.insert(finding_alike(firsts.as_slice(), finding))? {
+            tell_finding(telling, &mut told, finding)?;
         }
     }
-    Ok(messages)
+    Ok(told)
 }
 
 /// Adds the message of a finding, or counts it.
 fn tell_finding(
     telling: &Telling<'_>,
     told: &mut Messages,
-    finding: ToldFinding<'_>,
+    finding: Finding<'_>,
 ) -> Result<(), AllocError>
     requires { IsFew told.old }
     ensures { IsFew told.new }
@@ -152,7 +135,7 @@ fn tell_finding(
 }
 
 /// The message of a finding.
-fn finding_message(telling: &Telling<'_>, finding: ToldFinding<'_>) -> Result<Message, AllocError> {
+fn finding_message(telling: &Telling<'_>, finding: Finding<'_>) -> Result<Message, AllocError> {
     let spot = spot_of(telling, finding.here);
     let sentence = finding_sentence(telling, finding)?;
     let kind = finding_kind(finding.kind);
@@ -176,13 +159,13 @@ fn push_other(
 }
 
 /// What a message on a refusal is about.
-fn finding_kind(kind: FindingKind) -> MessageKind {
+fn finding_kind(kind: RefusalKind) -> MessageKind {
     match kind {
-        FindingKind::Override => MessageKind::Override,
-        FindingKind::PlainTwice => MessageKind::Duplicate,
-        FindingKind::MixedMethods => MessageKind::Combine,
-        FindingKind::NoStart => MessageKind::Start,
-        FindingKind::Undefined => MessageKind::Undefined,
+        RefusalKind::Override => MessageKind::Override,
+        RefusalKind::PlainTwice => MessageKind::Duplicate,
+        RefusalKind::MixedMethods => MessageKind::Combine,
+        RefusalKind::NoStart => MessageKind::Start,
+        RefusalKind::Undefined => MessageKind::Undefined,
     }
 }
 
@@ -191,23 +174,22 @@ fn refusal_message(telling: &Telling<'_>, refusal: &Refusal) -> Result<Message, 
     match refusal {
         Refusal::Recursive { name } => recursive_name(telling, name.as_str()),
         Refusal::NameClass { key } => name_class(telling, name_of_key(key)),
-        _ => general_message(telling.alloc, refusal),
+        _ => Ok(Message::new(
+            telling.alloc,
+            general_kind(refusal),
+            None,
+            general_sentence(telling.alloc, refusal)?,
+        )),
     }
 }
 
-/// The message of a refusal that has no place.
-fn general_message(alloc: Global, refusal: &Refusal) -> Result<Message, AllocError> {
-    let sentence = general_sentence(alloc, refusal)?;
-    Ok(Message::new(alloc, general_kind(refusal), None, sentence))
-}
-
-fn finding_sentence(telling: &Telling<'_>, finding: ToldFinding<'_>) -> Result<String, AllocError> {
+fn finding_sentence(telling: &Telling<'_>, finding: Finding<'_>) -> Result<String, AllocError> {
     match finding.kind {
-        FindingKind::Override => unfounded_override(telling, finding),
-        FindingKind::PlainTwice => plain_twice(telling, finding),
-        FindingKind::MixedMethods => mixed_methods(telling, finding),
-        FindingKind::NoStart => general_sentence(telling.alloc, &Refusal::NoStart),
-        FindingKind::Undefined => undefined_name(telling, finding),
+        RefusalKind::Override => unfounded_override(telling, finding),
+        RefusalKind::PlainTwice => plain_twice(telling, finding),
+        RefusalKind::MixedMethods => mixed_methods(telling, finding),
+        RefusalKind::NoStart => general_sentence(telling.alloc, &Refusal::NoStart),
+        RefusalKind::Undefined => undefined_name(telling, finding),
     }
 }
 
@@ -230,7 +212,7 @@ fn site_text(telling: &Telling<'_>, site: Site) -> Result<String, AllocError> {
 }
 
 /// Two definitions by `=`, or one that two includes bring.
-fn plain_twice(telling: &Telling<'_>, finding: ToldFinding<'_>) -> Result<String, AllocError> {
+fn plain_twice(telling: &Telling<'_>, finding: Finding<'_>) -> Result<String, AllocError> {
     let name = shown_name(telling.alloc, finding.name)?;
     match (finding.here, finding.there, finding.elsewhere) {
         (Some(here), Some(one), Some(other)) => {
@@ -268,7 +250,7 @@ fn plain_twice(telling: &Telling<'_>, finding: ToldFinding<'_>) -> Result<String
 }
 
 /// Definitions by `|=` and by `&=`.
-fn mixed_methods(telling: &Telling<'_>, finding: ToldFinding<'_>) -> Result<String, AllocError> {
+fn mixed_methods(telling: &Telling<'_>, finding: Finding<'_>) -> Result<String, AllocError> {
     let (Some(here), Some(interleave)) = (finding.here, finding.there) else {
         return sentence_on(telling, finding, "is combined by |= and by &=");
     };
@@ -283,10 +265,7 @@ fn mixed_methods(telling: &Telling<'_>, finding: ToldFinding<'_>) -> Result<Stri
 }
 
 /// An include that overrides what the included file lacks.
-fn unfounded_override(
-    telling: &Telling<'_>,
-    finding: ToldFinding<'_>,
-) -> Result<String, AllocError> {
+fn unfounded_override(telling: &Telling<'_>, finding: Finding<'_>) -> Result<String, AllocError> {
     let Some(include) = finding.there else {
         let what = "replaces what the included file does not define";
         return sentence_on(telling, finding, what);
@@ -318,7 +297,7 @@ fn included_page<'a>(telling: &Telling<'a>, include: Site) -> Option<&'a Page<'a
 /// The sentence that says this of the name.
 fn sentence_on(
     telling: &Telling<'_>,
-    finding: ToldFinding<'_>,
+    finding: Finding<'_>,
     what: &str,
 ) -> Result<String, AllocError> {
     let name = shown_name(telling.alloc, finding.name)?;
@@ -327,7 +306,7 @@ fn sentence_on(
 
 /// A name that comes back to itself outside elements.
 fn recursive_name(telling: &Telling<'_>, name: &str) -> Result<Message, AllocError> {
-    let way = sites_of_way(telling)?;
+    let way = loop_of(telling.alloc, telling.sites, telling.defined, name)?;
     let spot = spot_of(telling, way.first().copied());
     let sentence = recursive_sentence(telling, name, way.as_slice())?;
     let mut message = Message::new(telling.alloc, MessageKind::Recursive, spot, sentence);
@@ -335,17 +314,6 @@ fn recursive_name(telling: &Telling<'_>, name: &str) -> Result<Message, AllocErr
         push_other(telling, &mut message, Some(*site))?;
     }
     Ok(message)
-}
-
-/// The sites of the definitions that a refusal speaks of.
-fn sites_of_way(telling: &Telling<'_>) -> Result<Vec<Site>, AllocError> {
-    let mut sites = Vec::new(telling.alloc);
-    for place in &telling.diagnosis.way {
-        if let Some(site) = telling.sites.definition(*place) {
-            sites.push(site)?;
-        }
-    }
-    Ok(sites)
 }
 
 /// That a name comes back to itself by these definitions.
@@ -392,10 +360,7 @@ fn name_class(telling: &Telling<'_>, key: &str) -> Result<Message, AllocError> {
     let sentence = format!(in telling.alloc;
         "a definition of `{name}`, of which this is the first, has a name class that is not allowed: * excepts *, p:* excepts * or p:*, or an attribute may be named xmlns (RELAX NG, section 4.16)"
     )?;
-    let first = telling.diagnosis.way.first();
-    let spot = spot_of(
-        telling,
-        first.and_then(|place| telling.sites.definition(*place)),
-    );
+    let found = brought_definitions_of(telling, key)?;
+    let spot = spot_of(telling, found.first().map(|one| one.site));
     Ok(Message::new(telling.alloc, MessageKind::NameClass, spot, sentence))
 }
