@@ -3,6 +3,7 @@ use crate::unreached::unreached_names;
 use rn_assemble::Grammar;
 use rn_files::{Position, SourceFile};
 use rn_lift::Lifted;
+use rn_modset::ModuleSet;
 use rn_outline::{FilePartKind, name_in, read_outline};
 use rn_report::{DefinitionPlace, definition_places, push_printable};
 use rn_text::{is_keyword, tokens};
@@ -32,29 +33,30 @@ pub fn unused_text(
     alloc: Global,
     grammar: &Grammar,
     lifted: &Lifted,
+    set: &ModuleSet,
     files: &[SourceFile],
 ) -> Result<String, AllocError> {
     let unreached = unreached_names(alloc, grammar)?;
     if unreached.is_empty() {
         return Ok(String::new(alloc));
     }
-    unused_lines(alloc, unreached, lifted, files)
+    let places = definition_places(alloc, files, lifted, set)?;
+    unused_lines(alloc, unreached, places.as_slice(), files)
 }
 
-/// The lines of the definitions of these names.
+/// The lines of those definitions that have these names alone.
 fn unused_lines(
     alloc: Global,
     names: Vec<String>,
-    lifted: &Lifted,
+    places: &[DefinitionPlace],
     files: &[SourceFile],
 ) -> Result<String, AllocError> {
     let mut unreached = BTreeSet::new(alloc);
     for name in names {
         unreached.insert(name)?;
     }
-    let places = definition_places(alloc, files, lifted)?;
     let mut lines = String::new(alloc);
-    for one in unused_definitions(alloc, &unreached, places.as_slice(), files)? {
+    for one in unused_definitions(alloc, &unreached, places, files)? {
         let position = Position {
             line: one.line,
             column: one.column,
@@ -133,9 +135,10 @@ pub fn origins_text(
     alloc: Global,
     schema: &str,
     lifted: &Lifted,
+    set: &ModuleSet,
     files: &[SourceFile],
 ) -> Result<String, AllocError> {
-    let mut places = definition_places(alloc, files, lifted)?;
+    let mut places = definition_places(alloc, files, lifted, set)?;
     places.sort_by(|one, other| one.key.as_str().cmp(other.key.as_str()))?;
     let mut lines = String::new(alloc);
     for name in printed_names(alloc, schema)? {

@@ -6,6 +6,7 @@ ghost use Rattle.rn_files.specs.ReadableFiles.{IsGiven, IsReadFor, IsReadSource}
 ghost use Rattle.rn_files.specs.Sources.{AreSoundSources};
 ghost use Rattle.rn_flat.specs.FlatFaults.{LeavesOutput};
 ghost use Rattle.rn_flat.specs.JobResults.{Delivers, HasFlatSchema, IsFlatGrammarOf, IsFlatSchema, IsFlatSchemaOf, IsProduct, IsSchemaIn, IsUnusedText, TellsByEnding, WritesNothing};
+ghost use Rattle.rn_flat.specs.ModuleSets.{IsSetOf};
 ghost use Rattle.rn_flat.specs.inside.ToldFiles.{told_of};
 ghost use Rattle.rn_rng.specs.Written.{IsXmlOf};
 
@@ -24,7 +25,7 @@ use rn_assemble::{Refusal, ShortGrammar, assemble_short};
 use rn_files::{Asked, Files, LinkedFiles, Map, SourceFile, Sources, read_files, sources_of};
 use rn_lift::Lifted;
 use rn_merge::{Sink, merge};
-use rn_modset::write_bundle;
+use rn_modset::{ModuleSet, write_bundle};
 use rn_report::{Format, MessageKind, refusal_messages};
 use rn_rng::{XmlFault, schema_xml};
 use std::alloc::{AllocError, Global};
@@ -290,7 +291,8 @@ fn schema_text(alloc: Global, sources: Sources, format: Format) -> Result<String
     let lifted = lift_files(alloc, &sources, format)?;
     let mut files = sources.files;
     give_up_outlines(alloc, &mut files);
-    schema(alloc, &lifted, files.as_slice(), format)
+    let set = module_set(alloc, &lifted, files.as_slice(), format)?;
+    schema(alloc, &set, &lifted, files.as_slice(), format)
 }
 
 /// Drops the outlines of lifted files: messages need their names and texts alone.
@@ -323,8 +325,9 @@ fn unused(alloc: Global, sources: &Sources, format: Format) -> Result<String, Fl
 {
     let lifted = lift_files(alloc, sources, format)?;
     let files = sources.files.as_slice();
-    let grammar = grammar(alloc, &lifted, files, format)?;
-    Ok(unused_text(alloc, &grammar.grammar, &lifted, files)?)
+    let set = module_set(alloc, &lifted, files, format)?;
+    let grammar = grammar(alloc, &set, &lifted, files, format)?;
+    Ok(unused_text(alloc, &grammar.grammar, &lifted, &set, files)?)
 }
 
 /// The lines that tell where the definitions of the schema are.
@@ -333,30 +336,33 @@ fn origins(alloc: Global, sources: &Sources, format: Format) -> Result<Vec<u8>, 
 {
     let lifted = lift_files(alloc, sources, format)?;
     let files = sources.files.as_slice();
-    let schema = schema(alloc, &lifted, files, format)?;
-    Ok(origins_text(alloc, schema.as_str(), &lifted, files)?.into_bytes())
+    let set = module_set(alloc, &lifted, files, format)?;
+    let schema = schema(alloc, &set, &lifted, files, format)?;
+    Ok(origins_text(alloc, schema.as_str(), &lifted, &set, files)?.into_bytes())
 }
 
-/// The grammar of the modules.
+/// The grammar of the modules, whose set this is.
 fn grammar(
     alloc: Global,
+    set: &ModuleSet,
     lifted: &Lifted,
     files: &[SourceFile],
     format: Format,
 ) -> Result<ShortGrammar, FlatFault>
-    ensures { IfOk result (λ g. IsFlatGrammarOf lifted.now.modules.items
+    ensures { IsSetOf lifted.now.modules.items set.now
+        → IfOk result (λ g. IsFlatGrammarOf lifted.now.modules.items
         (short_texts g.uris) (grammar_view g.grammar)) }
 {
-    let set = module_set(alloc, lifted, files, format)?;
-    match assemble_short(alloc, &set) {
+    match assemble_short(alloc, set) {
         Ok(grammar) => Ok(grammar),
-        Err(refusal) => Err(set_fault(alloc, lifted, files, &refusal, format)?),
+        Err(refusal) => Err(set_fault(alloc, set, lifted, files, &refusal, format)?),
     }
 }
 
 /// The fault of a set that is refused.
 fn set_fault(
     alloc: Global,
+    set: &ModuleSet,
     lifted: &Lifted,
     files: &[SourceFile],
     refusal: &Refusal,
@@ -365,22 +371,23 @@ fn set_fault(
     if *refusal == Refusal::Memory {
         return Ok(FlatFault::Memory);
     }
-    let told = refusal_messages(alloc, files, lifted, refusal)?;
+    let told = refusal_messages(alloc, files, lifted, set, refusal)?;
     fault_with_messages(alloc, files, &told, format)
 }
 
-/// The schema of the modules.
+/// The schema of the modules, whose set this is.
 fn schema(
     alloc: Global,
+    set: &ModuleSet,
     lifted: &Lifted,
     files: &[SourceFile],
     format: Format,
 ) -> Result<String, FlatFault>
-    ensures { IfOk result (λ text. IsFlatSchemaOf lifted.now.modules.items (string_bytes text)) }
+    ensures { IsSetOf lifted.now.modules.items set.now
+        → IfOk result (λ text. IsFlatSchemaOf lifted.now.modules.items (string_bytes text)) }
 {
-    let set = module_set(alloc, lifted, files, format)?;
-    match merge(alloc, &set) {
+    match merge(alloc, set) {
         Ok(text) => Ok(text),
-        Err(refusal) => Err(set_fault(alloc, lifted, files, &refusal, format)?),
+        Err(refusal) => Err(set_fault(alloc, set, lifted, files, &refusal, format)?),
     }
 }

@@ -15,7 +15,6 @@ mod report;
 mod showing;
 mod wording;
 
-pub use finding::lacks::{Lacks, lacks_of};
 pub use message_kinds::MessageKind;
 pub use placing::placed_definitions::{DefinitionPlace, definition_places};
 pub use report::{

@@ -1,16 +1,13 @@
-// What is told of a refusal, before it is a sentence: the name that it is about, and the sites that are told.
-use super::further_refusals::{FurtherRefusal, RefusalKind, has_method};
-use crate::placing::brought::{Instance, parting_includes};
-use crate::placing::defined::{BroughtDefinition, Defined, brought_definitions, group_of};
-use crate::placing::sites::{Site, Sites, include_around};
+// What is told of a finding, before it is a sentence: the name that it is about, and the sites that are told.
+use crate::placing::sites::{Site, Sites};
 use crate::report::Page;
+use rn_assemble::{Diagnosis, Finding, IncludePlace, Key, KeyId, Refusal, diagnose};
 use rn_lift::Lifted;
-use rn_outline::OutlineMethod;
+use rn_modset::ModuleSet;
 use std::alloc::{AllocError, Global};
 use std::collections::BTreeMap;
 
-/// What sentences are made from: the files, the modules and what these are made of, how they come to a schema, and the
-/// definitions that take part in it.
+/// What sentences are made from: the files, the modules and what these are made of, and what stands against them.
 #[derive(Clone, Copy)]
 pub struct Telling<'a> {
     /// Where sentences are held.
@@ -19,27 +16,123 @@ pub struct Telling<'a> {
     pub pages: &'a [Page<'a>],
     /// The modules.
     pub sites: &'a Sites<'a>,
-    /// The instances of the modules, as they come to a schema.
-    pub instances: &'a [Instance],
-    /// For each module, the numbers of its instances.
-    pub own: &'a [Vec<usize>],
-    /// The definitions that take part in the schema.
-    pub defined: &'a [Defined<'a>],
+    /// What stands against the set of the modules.
+    pub diagnosis: &'a Diagnosis<'a>,
 }
 
-/// What is told of a refusal.
+/// The kind of a finding, in the order in which a set is refused for them.
 #[derive(Clone, Copy, Debug, PartialEq, Eq, PartialOrd, Ord)]
-pub struct Finding<'v> {
-    /// The kind of the refusal.
-    pub kind: RefusalKind,
+pub enum FindingKind {
+    /// An include overrides what is not there (RELAX NG 2001, 4.7).
+    Override,
+    /// A name is defined twice by `=` (RELAX NG 2001, 4.17).
+    PlainTwice,
+    /// A name is combined by both methods (RELAX NG 2001, 4.17).
+    MixedMethods,
+    /// There is no start (RELAX NG 2001, 4.18).
+    NoStart,
+    /// A name is referred to and not defined (RELAX NG 2001, 4.18).
+    Undefined,
+}
+
+/// What is told of a finding.
+#[derive(Clone, Copy, Debug, PartialEq, Eq, PartialOrd, Ord)]
+pub struct ToldFinding<'v> {
+    /// The kind of the finding.
+    pub kind: FindingKind,
     /// The key or the name, as the file writes it.
     pub name: &'v str,
-    /// Where the refusal is told; `None` where that is not found.
+    /// Where the finding is told; `None` where that is not found.
     pub here: Option<Site>,
-    /// The other definition or the include that the refusal speaks of, or the first of two includes.
+    /// The other definition or the include that the finding speaks of, or the first of two includes.
     pub there: Option<Site>,
     /// The other one of two includes by which a definition comes twice.
     pub elsewhere: Option<Site>,
+}
+
+/// Whether the whole schema is looked at, or parts of one, which may lack a start and definitions.
+#[derive(Clone, Copy, Debug, PartialEq, Eq)]
+pub enum Extent {
+    /// All of a schema.
+    Whole,
+    /// Parts of a schema: neither the lack of a start nor a name that nothing defines is a fault.
+    Parts,
+}
+
+impl Extent {
+    /// Whether a finding of this kind is a fault.
+    pub fn counts(self, kind: FindingKind) -> bool {
+        self == Extent::Whole || !matches!(kind, FindingKind::NoStart | FindingKind::Undefined)
+    }
+}
+
+/// What stands against a set that is refused; `None` where it is refused for its texts or includes.
+pub fn diagnosis_of<'s>(
+    alloc: Global,
+    set: &'s ModuleSet,
+    refusal: Option<&Refusal>,
+) -> Result<Option<Diagnosis<'s>>, AllocError> {
+    match diagnose(alloc, set, refusal) {
+        Ok(diagnosis) => Ok(Some(diagnosis)),
+        Err(Refusal::Memory) => Err(AllocError),
+        Err(_) => Ok(None),
+    }
+}
+
+/// The number of the finding that the set is refused for; `None` for a refusal of another kind.
+pub fn first_finding(
+    diagnosis: &Diagnosis<'_>,
+    sites: &Sites<'_>,
+    refusal: &Refusal,
+) -> Option<usize> {
+    for (number, finding) in diagnosis.findings.iter().enumerate() {
+        if is_refused_for(diagnosis, sites, finding, refusal) {
+            return Some(number);
+        }
+    }
+    None
+}
+
+/// Whether a refusal is the one for a finding.
+fn is_refused_for(
+    diagnosis: &Diagnosis<'_>,
+    sites: &Sites<'_>,
+    finding: &Finding<'_>,
+    refusal: &Refusal,
+) -> bool {
+    match (finding, refusal) {
+        (
+            Finding::Override { key, include, .. },
+            Refusal::Override {
+                module,
+                key: refused,
+            },
+        ) => { is_key(diagnosis, *key, refused) && sites.name(include.module.0) == module.as_str() }
+        (Finding::PlainTwice { key, .. }, Refusal::PlainTwice { key: refused }) => {
+            is_key(diagnosis, *key, refused)
+        }
+        (Finding::MixedMethods { key, .. }, Refusal::MixedMethods { key: refused }) => {
+            is_key(diagnosis, *key, refused)
+        }
+        (Finding::NoStart, Refusal::NoStart) => true,
+        (Finding::Undefined { name, .. }, Refusal::Undefined { name: refused }) => {
+            *name == refused.as_str()
+        }
+        _ => false,
+    }
+}
+
+/// Whether a key is that of a refusal.
+fn is_key(diagnosis: &Diagnosis<'_>, key: KeyId, refused: &Key) -> bool {
+    diagnosis.name(key) == name_of_key(refused)
+}
+
+/// The name of a key; nothing for the start.
+pub fn name_of_key(key: &Key) -> &str {
+    match key {
+        Key::Start => "",
+        Key::Define(name) => name.as_str(),
+    }
 }
 
 /// A key as the file writes it.
@@ -51,111 +144,99 @@ pub fn spelled_key<'k>(telling: &Telling<'_>, key: &'k str) -> &'k str {
     }
 }
 
-/// The definitions of a key, as they come to the schema.
-pub fn brought_definitions_of(
-    telling: &Telling<'_>,
-    key: &str,
-) -> Result<Vec<BroughtDefinition>, AllocError> {
-    brought_definitions(
-        telling.alloc,
-        telling.sites,
-        telling.instances,
-        telling.own,
-        group_of(telling.defined, key),
-    )
-}
-
-/// What is told of a refusal.
-pub fn finding_of<'v>(
-    telling: &Telling<'_>,
-    refusal: FurtherRefusal<'v>,
-) -> Result<Finding<'v>, AllocError> {
-    let finding = Finding {
-        kind: refusal.kind,
-        name: spelled_key(telling, refusal.key),
-        here: refusal.site,
-        there: None,
-        elsewhere: None,
-    };
-    match refusal.kind {
-        RefusalKind::Override => Ok(with_include(telling, finding)),
-        RefusalKind::PlainTwice => with_plain_ones(telling, finding, refusal.key),
-        RefusalKind::MixedMethods => with_both_methods(telling, finding, refusal.key),
-        RefusalKind::NoStart | RefusalKind::Undefined => Ok(finding),
-    }
-}
-
-/// The include of a definition that overrides.
-fn including(sites: &Sites<'_>, definition: Site) -> Option<Site> {
-    let part = include_around(sites.part(definition)?)?;
-    Some(Site {
-        module: definition.module,
-        part,
-    })
-}
-
-/// The finding with the include of the definition that overrides.
-fn with_include<'v>(telling: &Telling<'_>, finding: Finding<'v>) -> Finding<'v> {
-    let mut finding = finding;
-    finding.there = finding
-        .here
-        .and_then(|definition| including(telling.sites, definition));
-    finding
-}
-
-/// The finding with two definitions by `=`; where they are one that comes twice, with the includes at which its ways
-/// part.
-fn with_plain_ones<'v>(
-    telling: &Telling<'_>,
-    finding: Finding<'v>,
-    key: &str,
-) -> Result<Finding<'v>, AllocError> {
-    let mut finding = finding;
-    let found = brought_definitions_of(telling, key)?;
-    let mut plain = found.iter().filter(|one| has_method(
-        telling.sites,
-        one.site,
-        OutlineMethod::Plain,
-    ));
-    if let (Some(first), Some(second)) = (plain.next(), plain.next()) {
-        finding.here = Some(first.site);
-        if first.site != second.site {
-            finding.there = Some(second.site);
-        } else if let Some((one, other)) = parting_includes(
-            telling.instances,
-            first.instance,
-            second.instance,
-        ) {
-            finding.there = Some(one);
-            finding.elsewhere = Some(other);
+/// What is told of a finding.
+pub fn told_finding<'a>(telling: &Telling<'a>, finding: &Finding<'a>) -> ToldFinding<'a> {
+    let sites = telling.sites;
+    match finding {
+        Finding::Override {
+            key,
+            component,
+            include,
+        } => of_key(
+            telling,
+            FindingKind::Override,
+            *key,
+            sites.definition(*component),
+            sites.include(*include),
+        ),
+        Finding::PlainTwice {
+            key,
+            first,
+            second,
+            parting,
+        } => {
+            let here = sites.definition(*first);
+            let there = if first == second {
+                None
+            } else {
+                sites.definition(*second)
+            };
+            let told = of_key(telling, FindingKind::PlainTwice, *key, here, there);
+            with_parting(telling, told, *parting)
         }
+        Finding::MixedMethods {
+            key,
+            choice,
+            interleave,
+        } => of_key(
+            telling,
+            FindingKind::MixedMethods,
+            *key,
+            sites.definition(*choice),
+            sites.definition(*interleave),
+        ),
+        Finding::NoStart => of_name(telling, FindingKind::NoStart, "", None, None),
+        Finding::Undefined { name, reference } => of_name(
+            telling,
+            FindingKind::Undefined,
+            name,
+            sites.reference(*reference),
+            None,
+        ),
     }
-    Ok(finding)
 }
 
-/// The first definition of those by the method.
-fn first_by(
-    telling: &Telling<'_>,
-    found: &[BroughtDefinition],
-    method: OutlineMethod,
-) -> Option<Site> {
-    let one = found
-        .iter()
-        .find(|one| has_method(telling.sites, one.site, method))?;
-    Some(one.site)
+/// A finding of a key that is told at these sites.
+fn of_key<'a>(
+    telling: &Telling<'a>,
+    kind: FindingKind,
+    key: KeyId,
+    here: Option<Site>,
+    there: Option<Site>,
+) -> ToldFinding<'a> {
+    of_name(telling, kind, telling.diagnosis.name(key), here, there)
 }
 
-/// The finding with the first definitions by `|=` and by `&=`.
-fn with_both_methods<'v>(
-    telling: &Telling<'_>,
-    finding: Finding<'v>,
-    key: &str,
-) -> Result<Finding<'v>, AllocError> {
-    let mut finding = finding;
-    let found = brought_definitions_of(telling, key)?;
-    finding.here = first_by(telling, found.as_slice(), OutlineMethod::Choice);
-    finding.there = first_by(telling, found.as_slice(), OutlineMethod::Interleave);
-    Ok(finding)
+/// A finding of a name that is told at these sites.
+fn of_name<'a>(
+    telling: &Telling<'a>,
+    kind: FindingKind,
+    name: &'a str,
+    here: Option<Site>,
+    there: Option<Site>,
+) -> ToldFinding<'a> {
+    ToldFinding {
+        kind,
+        name: spelled_key(telling, name),
+        here,
+        there,
+        elsewhere: None,
+    }
+}
+
+/// A finding with the two includes at which the ways part by which one definition comes twice, if there are any.
+fn with_parting<'a>(
+    telling: &Telling<'a>,
+    told: ToldFinding<'a>,
+    parting: Option<(IncludePlace, IncludePlace)>,
+) -> ToldFinding<'a> {
+    let Some((one, other)) = parting else {
+        return told;
+    };
+    let mut told = told;
+    told.there = telling.sites.include(one);
+    told.elsewhere = telling.sites.include(other);
+    told
 }
 
 /// For each module the first one that is made of the same grammar of the same file. Parts of one number come from one
@@ -191,8 +272,8 @@ fn site_alike(firsts: &[usize], site: Site) -> Site {
 }
 
 /// The finding with sites in the first modules that are alike, so that all of which the same is told are one.
-pub fn finding_alike<'v>(firsts: &[usize], finding: Finding<'v>) -> Finding<'v> {
-    Finding {
+pub fn finding_alike<'v>(firsts: &[usize], finding: ToldFinding<'v>) -> ToldFinding<'v> {
+    ToldFinding {
         kind: finding.kind,
         name: finding.name,
         here: finding.here.map(|site| site_alike(firsts, site)),

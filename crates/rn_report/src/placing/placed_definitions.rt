@@ -1,12 +1,13 @@
 // Where the definitions of a schema are in the files, in the order in which they are combined.
-use super::brought::{Instance, instances, is_hidden};
 use super::cursor::Cursor;
-use super::sites::{Site, Sites, key_of, sites_of};
+use super::sites::{Sites, sites_of};
+use crate::finding::findings::diagnosis_of;
 use crate::report::Spot;
+use rn_assemble::ComponentPlace;
 use rn_files::{Position, SourceFile};
 use rn_lift::Lifted;
+use rn_modset::ModuleSet;
 use std::alloc::{AllocError, Global};
-use std::collections::BTreeSet;
 
 /// A definition that takes part in a schema: no include overrides it (RELAX NG 2001, 4.7).
 #[derive(Debug, Drop, PartialEq, Eq)]
@@ -21,36 +22,45 @@ pub struct DefinitionPlace {
     pub position: Position,
 }
 
-/// A part of an instance of a module.
-#[derive(Clone, Copy)]
-struct Visit {
-    instance: usize,
-    part: usize,
-}
-
-/// The definitions that take part in the schema of the modules, each place once for each name that it has there, in the
-/// order in which they are combined (RELAX NG 2001, 4.17): as they stand in the texts, with what is included in place of
-/// the include. Modules that have no schema may have any of their definitions here.
+/// The definitions that take part in the schema of the modules, whose set is given too: each place once for each name
+/// that it has there, in the order in which they are combined (RELAX NG 2001, 4.17), as they stand in the texts, with what
+/// is included in place of the include. None of a set that is refused for its texts or includes.
 pub fn definition_places(
     alloc: Global,
     files: &[SourceFile],
     lifted: &Lifted,
+    set: &ModuleSet,
 ) -> Result<Vec<DefinitionPlace>, AllocError> {
-    let sites = sites_of(alloc, lifted)?;
-    let instances = instances(alloc, &sites)?;
     let mut places = Vec::new(alloc);
-    for site in sites_in_order(alloc, &sites, instances.as_slice())? {
-        if let (Some(key), Some(spot)) = (sites.key(site), sites.spot(site)) {
-            places.push(DefinitionPlace {
-                key: String::from_str(alloc, key)?,
-                written: String::from_str(alloc, lifted.written_name(key))?,
-                spot,
-                position: Position { line: 1, column: 1 },
-            })?;
+    let sites = sites_of(alloc, lifted)?;
+    if let Some(diagnosis) = diagnosis_of(alloc, set, None)? {
+        for definition in &diagnosis.definitions {
+            let key = diagnosis.name(definition.key);
+            push_place(alloc, &sites, key, definition.component, &mut places)?;
         }
     }
     find_positions(alloc, files, &mut places)?;
     Ok(places)
+}
+
+/// Adds where a definition of a key is, with its line and column still to be found.
+fn push_place(
+    alloc: Global,
+    sites: &Sites<'_>,
+    key: &str,
+    component: ComponentPlace,
+    places: &mut Vec<DefinitionPlace>,
+) -> Result<(), AllocError> {
+    let site = sites.definition(component);
+    if let Some(spot) = site.and_then(|site| sites.spot(site)) {
+        places.push(DefinitionPlace {
+            key: String::from_str(alloc, key)?,
+            written: String::from_str(alloc, sites.lifted.written_name(key))?,
+            spot,
+            position: Position { line: 1, column: 1 },
+        })?;
+    }
+    Ok(())
 }
 
 /// What is written in a file.
@@ -94,82 +104,4 @@ fn find_positions(
         }
     }
     Ok(())
-}
-
-/// The definitions that take part, each once, in the order of the texts, with what is included in place of the include.
-fn sites_in_order(
-    alloc: Global,
-    sites: &Sites<'_>,
-    instances: &[Instance],
-) -> Result<Vec<Site>, AllocError> {
-    let mut open = first_visits(alloc, instances)?;
-    let mut seen = BTreeSet::new(alloc);
-    let mut ordered = Vec::new(alloc);
-    for _ in 0..count_visits(sites, instances) {
-        let Some(visit) = open.pop() else {
-            break;
-        };
-        if let Some(site) = go_on(sites, instances, visit, &mut open)? {
-            if seen.insert(site)? {
-                ordered.push(site)?;
-            }
-        }
-    }
-    Ok(ordered)
-}
-
-/// The beginnings of the modules that nobody includes, the first one last.
-fn first_visits(alloc: Global, instances: &[Instance]) -> Result<Vec<Visit>, AllocError> {
-    let mut open = Vec::new(alloc);
-    for (instance, one) in instances.iter().enumerate().rev() {
-        if one.by.is_none() {
-            open.push(Visit { instance, part: 0 })?;
-        }
-    }
-    Ok(open)
-}
-
-/// How many parts and ends of modules are visited in all.
-fn count_visits(sites: &Sites<'_>, instances: &[Instance]) -> usize {
-    instances.iter().fold(0_usize, |count, one| {
-        count
-            .saturating_add(sites.parts(one.module).len())
-            .saturating_add(1)
-    })
-}
-
-/// Goes on behind a part, or into the module that it includes; answers the definition that the part is, if it takes part.
-fn go_on(
-    sites: &Sites<'_>,
-    instances: &[Instance],
-    visit: Visit,
-    open: &mut Vec<Visit>,
-) -> Result<Option<Site>, AllocError> {
-    let Visit { instance, part } = visit;
-    let Some(module) = instances.get(instance).map(|one| one.module) else {
-        return Ok(None);
-    };
-    let Some(one) = sites.parts(module).get(part) else {
-        return Ok(None);
-    };
-    open.push(Visit {
-        instance,
-        part: part.saturating_add(1),
-    })?;
-    if let Some(included) = brought_by(instances, visit) {
-        open.push(Visit {
-            instance: included,
-            part: 0,
-        })?;
-    }
-    match key_of(sites.text(module), one) {
-        Some(key) if !is_hidden(sites, instances, instance, key) => Ok(Some(Site { module, part })),
-        _ => Ok(None),
-    }
-}
-
-/// The instance that an include brings. They are in the order of what brings them.
-fn brought_by(instances: &[Instance], include: Visit) -> Option<usize> {
-    let by = Some((include.instance, include.part));
-    instances.binary_search_by(|one| one.by.cmp(&by)).ok()
 }

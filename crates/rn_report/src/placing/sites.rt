@@ -1,38 +1,26 @@
 // What the modules define, refer to and include, and where.
-use super::outside_names::outside_names;
 use crate::report::Spot;
-use rn_assemble::Key;
+use rn_assemble::{ComponentPlace, IncludePlace, ReferencePlace};
 use rn_lift::Lifted;
-use rn_outline::{FilePart, FilePartKind, OutlineFault, OutlineMethod, name_in, read_outline};
+use rn_outline::{FilePart, FilePartKind, OutlineFault, name_in, read_outline};
 use rn_text::{TextFault, tokens};
 use std::alloc::{AllocError, Global};
-
-/// A definition of an include that overrides.
-#[derive(Debug, Drop, PartialEq, Eq, PartialOrd, Ord)]
-pub struct Overriding {
-    /// The number of the part that is the include.
-    pub include: usize,
-    /// The key that the definition overrides: a name, or nothing for the start.
-    pub key: String,
-    /// The number of the part that is the definition.
-    pub part: usize,
-}
 
 /// What a module is made of.
 #[derive(Debug, Drop)]
 pub struct ModuleSites {
     /// The definitions, references and includes of the module, in the order of its text.
     pub parts: Vec<FilePart>,
-    /// What the includes of the module override, in the order of includes and keys.
-    pub overrides: Vec<Overriding>,
-    /// Where names begin that are outside elements, in order.
-    pub outside: Vec<usize>,
+    /// The numbers of the parts that are definitions.
+    pub definitions: Vec<usize>,
+    /// The numbers of the parts that are includes.
+    pub includes: Vec<usize>,
 }
 
 /// The modules, and what each is made of.
 #[derive(Debug, Drop)]
 pub struct Sites<'a> {
-    /// The modules.
+    /// The modules, in the order of their names.
     pub lifted: &'a Lifted,
     /// What each module is made of, in the order of the modules.
     pub modules: Vec<ModuleSites>,
@@ -47,15 +35,7 @@ pub struct Site {
     pub part: usize,
 }
 
-/// The name of a key; nothing for the start.
-pub fn name_of_key(key: &Key) -> &str {
-    match key {
-        Key::Start => "",
-        Key::Define(name) => name.as_str(),
-    }
-}
-
-/// The key that a part defines, where it is a definition.
+/// The key that a part defines, where it is a definition: a name, or nothing for the start.
 pub fn key_of<'a>(text: &'a str, part: &FilePart) -> Option<&'a str> {
     match &part.kind {
         FilePartKind::Define { name, .. } => Some(name_in(text, *name)),
@@ -64,32 +44,8 @@ pub fn key_of<'a>(text: &'a str, part: &FilePart) -> Option<&'a str> {
     }
 }
 
-/// How a definition is combined.
-pub fn method_of(part: &FilePart) -> Option<OutlineMethod> {
-    match &part.kind {
-        FilePartKind::Define { method, .. } | FilePartKind::Start { method, .. } => Some(*method),
-        _ => None,
-    }
-}
-
-/// The number of the part that is the include of a definition that overrides.
-pub fn include_around(part: &FilePart) -> Option<usize> {
-    match &part.kind {
-        FilePartKind::Define { within, .. } | FilePartKind::Start { within, .. } => *within,
-        _ => None,
-    }
-}
-
-/// The name that a part refers to, and where it begins.
-pub fn use_of<'a>(text: &'a str, part: &FilePart) -> Option<(&'a str, usize)> {
-    match &part.kind {
-        FilePartKind::Reference { name } => Some((name_in(text, *name), name.from)),
-        _ => None,
-    }
-}
-
 /// The name of the module that a part includes.
-fn include_of(part: &FilePart) -> Option<&str> {
+pub fn include_of(part: &FilePart) -> Option<&str> {
     match &part.kind {
         FilePartKind::Include { literal, .. } => Some(literal.as_str()),
         _ => None,
@@ -100,52 +56,46 @@ fn include_of(part: &FilePart) -> Option<&str> {
 pub fn sites_of(alloc: Global, lifted: &Lifted) -> Result<Sites<'_>, AllocError> {
     let mut modules = Vec::new(alloc);
     for module in lifted.modules.as_slice() {
-        modules.push(module_sites(alloc, module.text.as_str())?)?;
+        let parts = parts_of(alloc, module.text.as_str())?;
+        modules.push(module_sites(alloc, parts)?)?;
     }
     Ok(Sites { lifted, modules })
 }
 
-fn module_sites(alloc: Global, text: &str) -> Result<ModuleSites, AllocError> {
-    let mut sites = ModuleSites {
-        parts: Vec::new(alloc),
-        overrides: Vec::new(alloc),
-        outside: Vec::new(alloc),
-    };
+/// The parts of a text; nothing where it is none of the language.
+fn parts_of(alloc: Global, text: &str) -> Result<Vec<FilePart>, AllocError> {
     let tokens = match tokens(alloc, text.as_bytes()) {
         Ok(tokens) => tokens,
         Err(TextFault::Memory) => return Err(AllocError),
-        Err(_) => return Ok(sites),
+        Err(_) => return Ok(Vec::new(alloc)),
     };
     match read_outline(alloc, text, tokens.as_slice()) {
-        Ok(outline) => {
-            sites.overrides = overrides(alloc, text, outline.parts.as_slice())?;
-            sites.outside = outside_names(alloc, tokens.as_slice())?;
-            sites.parts = outline.parts;
-            Ok(sites)
-        }
+        Ok(outline) => Ok(outline.parts),
         Err(OutlineFault::Memory) => Err(AllocError),
-        Err(_) => Ok(sites),
+        Err(_) => Ok(Vec::new(alloc)),
     }
 }
 
-/// What the includes override, in the order of includes and keys.
-fn overrides(alloc: Global, text: &str, parts: &[FilePart]) -> Result<Vec<Overriding>, AllocError> {
-    let mut overrides = Vec::new(alloc);
+/// Parts, with the numbers of definitions and includes among them.
+fn module_sites(alloc: Global, parts: Vec<FilePart>) -> Result<ModuleSites, AllocError> {
+    let mut definitions = Vec::new(alloc);
+    let mut includes = Vec::new(alloc);
     for (number, part) in parts.iter().enumerate() {
-        if let (Some(include), Some(key)) = (include_around(part), key_of(text, part)) {
-            overrides.push(Overriding {
-                include,
-                key: String::from_str(alloc, key)?,
-                part: number,
-            })?;
+        match &part.kind {
+            FilePartKind::Define { .. } | FilePartKind::Start { .. } => definitions.push(number)?,
+            FilePartKind::Include { .. } => includes.push(number)?,
+            _ => {}
         }
     }
-    overrides.sort()?;
-    Ok(overrides)
+    Ok(ModuleSites {
+        parts,
+        definitions,
+        includes,
+    })
 }
 
 impl Sites<'_> {
-    /// The number of the module of this name. The modules are in the order of their names.
+    /// The number of the module of this name.
     pub fn number_of(&self, name: &str) -> Option<usize> {
         self.lifted
             .modules
@@ -177,8 +127,39 @@ impl Sites<'_> {
         }
     }
 
+    /// Where a definition is.
+    pub fn definition(&self, place: ComponentPlace) -> Option<Site> {
+        let module = place.module.0;
+        let part = *self.modules.get(module)?.definitions.get(place.number)?;
+        Some(Site { module, part })
+    }
+
+    /// Where an include is.
+    pub fn include(&self, place: IncludePlace) -> Option<Site> {
+        let module = place.module.0;
+        let part = *self.modules.get(module)?.includes.get(place.number)?;
+        Some(Site { module, part })
+    }
+
+    /// Where a reference is: the references of a definition follow it.
+    pub fn reference(&self, place: ReferencePlace) -> Option<Site> {
+        let Site { module, part } = self.definition(place.component)?;
+        let first = part.saturating_add(1);
+        let (offset, _) = self
+            .parts(module)
+            .get(first..)?
+            .iter()
+            .enumerate()
+            .filter(|(_, part)| matches!(&part.kind, FilePartKind::Reference { .. }))
+            .nth(place.number)?;
+        Some(Site {
+            module,
+            part: first.saturating_add(offset),
+        })
+    }
+
     /// The part at a site.
-    pub fn part(&self, site: Site) -> Option<&FilePart> {
+    fn part(&self, site: Site) -> Option<&FilePart> {
         self.parts(site.module).get(site.part)
     }
 
@@ -190,47 +171,16 @@ impl Sites<'_> {
 
     /// The name that is referred to at a site.
     pub fn used_name(&self, site: Site) -> Option<&str> {
-        let part = self.part(site)?;
-        use_of(self.text(site.module), part).map(|(name, _)| name)
-    }
-
-    /// Whether a name that begins at the byte is outside elements.
-    pub fn is_outside(&self, module: usize, at: usize) -> bool {
-        match self.modules.get(module) {
-            Some(held) => held.outside.binary_search(&at).is_ok(),
-            None => false,
-        }
-    }
-
-    /// Whether the include overrides the key.
-    pub fn overrides(&self, module: usize, include: usize, key: &str) -> bool {
-        match self.modules.get(module) {
-            Some(held) => held
-                .overrides
-                .binary_search_by(|one| one.include.cmp(&include).then(one.key.as_str().cmp(&key)))
-                .is_ok(),
-            None => false,
-        }
-    }
-
-    /// What the include overrides, in the order of the keys.
-    pub fn overridden(&self, include: Site) -> &[Overriding] {
-        match self.modules.get(include.module) {
-            Some(held) => {
-                let all = held.overrides.as_slice();
-                let from = all.partition_point(|one| one.include < include.part);
-                let to = all.partition_point(|one| one.include <= include.part);
-                all.get(from..to).unwrap_or(&[])
-            }
-            None => &[],
+        match &self.part(site)?.kind {
+            FilePartKind::Reference { name } => Some(name_in(self.text(site.module), *name)),
+            _ => None,
         }
     }
 
     /// The module that a site includes.
     pub fn included_module(&self, site: Site) -> Option<usize> {
         let part = self.part(site)?;
-        let name = include_of(part)?;
-        self.number_of(name)
+        self.number_of(include_of(part)?)
     }
 
     /// Where a definition, a reference or an include is in the files: its name or its literal.

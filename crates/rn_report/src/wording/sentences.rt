@@ -5,36 +5,35 @@ ghost use Rattle.rn_report.specs.Messages.{IsFew};
 use super::file_messages::text_messages;
 use super::general_sentences::{general_kind, general_sentence};
 use crate::finding::findings::{
-    Finding, Telling, brought_definitions_of, finding_alike, finding_of, first_alike, spelled_key,
+    Extent, FindingKind, Telling, ToldFinding, diagnosis_of, finding_alike, first_alike,
+    first_finding, name_of_key, spelled_key, told_finding,
 };
-use crate::finding::further_refusals::{Extent, FurtherRefusal, RefusalKind, refusals_from};
 use crate::finding::nearest_keys::{provided_advice, undefined_name};
 use crate::message_kinds::MessageKind;
-use crate::placing::brought::{instances, instances_of};
-use crate::placing::defined::taking_part;
-use crate::placing::loop_sites::loop_of;
-use crate::placing::sites::{Site, name_of_key, sites_of};
+use crate::placing::sites::{Site, sites_of};
 use crate::report::{
     MAX_TOLD, Message, Messages, Page, Spot, is_xml_page, place_text, shown_name, source_pages,
 };
-use rn_assemble::Refusal;
+use rn_assemble::{Diagnosis, Refusal};
 use rn_files::SourceFile;
 use rn_lift::Lifted;
+use rn_modset::ModuleSet;
 use std::alloc::{AllocError, Global};
 use std::collections::BTreeSet;
 
-/// What is told of modules that are refused. Where texts are at fault, it is the fault of each text; else the refusal,
-/// at the first place that it speaks of, and then those that would be answered once it is mended, of the kinds of which
-/// all can be found. What is the same for several modules of one file is told once.
+/// What is told of modules whose set is refused. Where texts are at fault, it is the fault of each text; else the
+/// refusal, at the first place that it speaks of, and then those that would be answered once it is mended, of the kinds of
+/// which all can be found. What is the same for several modules of one file is told once.
 pub fn refusal_messages(
     alloc: Global,
     files: &[SourceFile],
     lifted: &Lifted,
+    set: &ModuleSet,
     refusal: &Refusal,
 ) -> Result<Messages, AllocError>
     ensures { IfOk result IsFew }
 {
-    messages_to(alloc, files, lifted, refusal, Extent::Whole)
+    messages_to(alloc, files, lifted, set, refusal, Extent::Whole)
 }
 
 /// What is told of modules that are parts of a schema and are refused, as [`refusal_messages`] tells it, but for the lack
@@ -43,18 +42,20 @@ pub fn refusal_messages_of_parts(
     alloc: Global,
     files: &[SourceFile],
     lifted: &Lifted,
+    set: &ModuleSet,
     refusal: &Refusal,
 ) -> Result<Messages, AllocError>
     ensures { IfOk result IsFew }
 {
-    messages_to(alloc, files, lifted, refusal, Extent::Parts)
+    messages_to(alloc, files, lifted, set, refusal, Extent::Parts)
 }
 
-/// What is told of modules that are refused.
+/// What is told of modules whose set is refused.
 fn messages_to(
     alloc: Global,
     files: &[SourceFile],
     lifted: &Lifted,
+    set: &ModuleSet,
     refusal: &Refusal,
     extent: Extent,
 ) -> Result<Messages, AllocError>
@@ -66,24 +67,34 @@ fn messages_to(
             return Ok(told);
         }
     }
+    match diagnosis_of(alloc, set, Some(refusal))? {
+        Some(diagnosis) => diagnosis_messages(alloc, files, lifted, &diagnosis, refusal, extent),
+        None => Messages::of_message(alloc, general_message(alloc, refusal)?),
+    }
+}
+
+/// What is told of a refusal, where all that stands against the set is known.
+fn diagnosis_messages(
+    alloc: Global,
+    files: &[SourceFile],
+    lifted: &Lifted,
+    diagnosis: &Diagnosis<'_>,
+    refusal: &Refusal,
+    extent: Extent,
+) -> Result<Messages, AllocError>
+    ensures { IfOk result IsFew }
+{
     let pages = source_pages(alloc, files)?;
     let sites = sites_of(alloc, lifted)?;
-    let instances = instances(alloc, &sites)?;
-    let own = instances_of(alloc, &sites, instances.as_slice())?;
-    let defined = taking_part(alloc, &sites, instances.as_slice(), own.as_slice())?;
-    let found = refusals_from(alloc, &sites, defined.as_slice(), refusal, extent)?;
     let telling = Telling {
         alloc,
         pages: pages.as_slice(),
         sites: &sites,
-        instances: instances.as_slice(),
-        own: own.as_slice(),
-        defined: defined.as_slice(),
+        diagnosis,
     };
-    if found.is_empty() {
-        Messages::of_message(alloc, refusal_message(&telling, refusal)?)
-    } else {
-        tell(&telling, found.as_slice())
+    match first_finding(diagnosis, &sites, refusal) {
+        Some(first) => tell(&telling, first, extent),
+        None => Messages::of_message(alloc, refusal_message(&telling, refusal)?),
     }
 }
 
@@ -102,16 +113,17 @@ fn is_of_text(refusal: &Refusal) -> bool {
     )
 }
 
-/// The messages of these refusals.
-fn tell(telling: &Telling<'_>, refusals: &[FurtherRefusal<'_>]) -> Result<Messages, AllocError>
+/// The messages of the findings from this one on that are faults.
+fn tell(telling: &Telling<'_>, first: usize, extent: Extent) -> Result<Messages, AllocError>
     ensures { IfOk result IsFew }
 {
     let firsts = first_alike(telling.alloc, telling.sites.lifted)?;
     let mut seen = BTreeSet::new(telling.alloc);
     let mut told = Messages::new(telling.alloc);
-    for refusal in refusals {
-        let finding = finding_of(telling, *refusal)?;
-        if seen.insert(finding_alike(firsts.as_slice(), finding))? {
+    for number in first..telling.diagnosis.findings.len() {
+        let finding = told_finding(telling, &telling.diagnosis.findings[number]);
+        let is_fault = extent.counts(finding.kind);
+        if is_fault && seen.insert(finding_alike(firsts.as_slice(), finding))? {
             tell_finding(telling, &mut told, finding)?;
         }
     }
@@ -122,7 +134,7 @@ fn tell(telling: &Telling<'_>, refusals: &[FurtherRefusal<'_>]) -> Result<Messag
 fn tell_finding(
     telling: &Telling<'_>,
     told: &mut Messages,
-    finding: Finding<'_>,
+    finding: ToldFinding<'_>,
 ) -> Result<(), AllocError>
     requires { IsFew told.old }
     ensures { IsFew told.new }
@@ -135,7 +147,7 @@ fn tell_finding(
 }
 
 /// The message of a finding.
-fn finding_message(telling: &Telling<'_>, finding: Finding<'_>) -> Result<Message, AllocError> {
+fn finding_message(telling: &Telling<'_>, finding: ToldFinding<'_>) -> Result<Message, AllocError> {
     let spot = spot_of(telling, finding.here);
     let sentence = finding_sentence(telling, finding)?;
     let kind = finding_kind(finding.kind);
@@ -159,13 +171,13 @@ fn push_other(
 }
 
 /// What a message on a refusal is about.
-fn finding_kind(kind: RefusalKind) -> MessageKind {
+fn finding_kind(kind: FindingKind) -> MessageKind {
     match kind {
-        RefusalKind::Override => MessageKind::Override,
-        RefusalKind::PlainTwice => MessageKind::Duplicate,
-        RefusalKind::MixedMethods => MessageKind::Combine,
-        RefusalKind::NoStart => MessageKind::Start,
-        RefusalKind::Undefined => MessageKind::Undefined,
+        FindingKind::Override => MessageKind::Override,
+        FindingKind::PlainTwice => MessageKind::Duplicate,
+        FindingKind::MixedMethods => MessageKind::Combine,
+        FindingKind::NoStart => MessageKind::Start,
+        FindingKind::Undefined => MessageKind::Undefined,
     }
 }
 
@@ -174,22 +186,23 @@ fn refusal_message(telling: &Telling<'_>, refusal: &Refusal) -> Result<Message, 
     match refusal {
         Refusal::Recursive { name } => recursive_name(telling, name.as_str()),
         Refusal::NameClass { key } => name_class(telling, name_of_key(key)),
-        _ => Ok(Message::new(
-            telling.alloc,
-            general_kind(refusal),
-            None,
-            general_sentence(telling.alloc, refusal)?,
-        )),
+        _ => general_message(telling.alloc, refusal),
     }
 }
 
-fn finding_sentence(telling: &Telling<'_>, finding: Finding<'_>) -> Result<String, AllocError> {
+/// The message of a refusal that is about all files together.
+fn general_message(alloc: Global, refusal: &Refusal) -> Result<Message, AllocError> {
+    let sentence = general_sentence(alloc, refusal)?;
+    Ok(Message::new(alloc, general_kind(refusal), None, sentence))
+}
+
+fn finding_sentence(telling: &Telling<'_>, finding: ToldFinding<'_>) -> Result<String, AllocError> {
     match finding.kind {
-        RefusalKind::Override => unfounded_override(telling, finding),
-        RefusalKind::PlainTwice => plain_twice(telling, finding),
-        RefusalKind::MixedMethods => mixed_methods(telling, finding),
-        RefusalKind::NoStart => general_sentence(telling.alloc, &Refusal::NoStart),
-        RefusalKind::Undefined => undefined_name(telling, finding),
+        FindingKind::Override => unfounded_override(telling, finding),
+        FindingKind::PlainTwice => plain_twice(telling, finding),
+        FindingKind::MixedMethods => mixed_methods(telling, finding),
+        FindingKind::NoStart => general_sentence(telling.alloc, &Refusal::NoStart),
+        FindingKind::Undefined => undefined_name(telling, finding),
     }
 }
 
@@ -212,7 +225,7 @@ fn site_text(telling: &Telling<'_>, site: Site) -> Result<String, AllocError> {
 }
 
 /// Two definitions by `=`, or one that two includes bring.
-fn plain_twice(telling: &Telling<'_>, finding: Finding<'_>) -> Result<String, AllocError> {
+fn plain_twice(telling: &Telling<'_>, finding: ToldFinding<'_>) -> Result<String, AllocError> {
     let name = shown_name(telling.alloc, finding.name)?;
     match (finding.here, finding.there, finding.elsewhere) {
         (Some(here), Some(one), Some(other)) => {
@@ -250,7 +263,7 @@ fn plain_twice(telling: &Telling<'_>, finding: Finding<'_>) -> Result<String, Al
 }
 
 /// Definitions by `|=` and by `&=`.
-fn mixed_methods(telling: &Telling<'_>, finding: Finding<'_>) -> Result<String, AllocError> {
+fn mixed_methods(telling: &Telling<'_>, finding: ToldFinding<'_>) -> Result<String, AllocError> {
     let (Some(here), Some(interleave)) = (finding.here, finding.there) else {
         return sentence_on(telling, finding, "is combined by |= and by &=");
     };
@@ -265,7 +278,10 @@ fn mixed_methods(telling: &Telling<'_>, finding: Finding<'_>) -> Result<String, 
 }
 
 /// An include that overrides what the included file lacks.
-fn unfounded_override(telling: &Telling<'_>, finding: Finding<'_>) -> Result<String, AllocError> {
+fn unfounded_override(
+    telling: &Telling<'_>,
+    finding: ToldFinding<'_>,
+) -> Result<String, AllocError> {
     let Some(include) = finding.there else {
         let what = "replaces what the included file does not define";
         return sentence_on(telling, finding, what);
@@ -297,7 +313,7 @@ fn included_page<'a>(telling: &Telling<'a>, include: Site) -> Option<&'a Page<'a
 /// The sentence that says this of the name.
 fn sentence_on(
     telling: &Telling<'_>,
-    finding: Finding<'_>,
+    finding: ToldFinding<'_>,
     what: &str,
 ) -> Result<String, AllocError> {
     let name = shown_name(telling.alloc, finding.name)?;
@@ -306,7 +322,7 @@ fn sentence_on(
 
 /// A name that comes back to itself outside elements.
 fn recursive_name(telling: &Telling<'_>, name: &str) -> Result<Message, AllocError> {
-    let way = loop_of(telling.alloc, telling.sites, telling.defined, name)?;
+    let way = way_sites(telling)?;
     let spot = spot_of(telling, way.first().copied());
     let sentence = recursive_sentence(telling, name, way.as_slice())?;
     let mut message = Message::new(telling.alloc, MessageKind::Recursive, spot, sentence);
@@ -314,6 +330,17 @@ fn recursive_name(telling: &Telling<'_>, name: &str) -> Result<Message, AllocErr
         push_other(telling, &mut message, Some(*site))?;
     }
     Ok(message)
+}
+
+/// Where the definitions are by which the refusal comes about.
+fn way_sites(telling: &Telling<'_>) -> Result<Vec<Site>, AllocError> {
+    let mut sites = Vec::new(telling.alloc);
+    for place in &telling.diagnosis.way {
+        if let Some(site) = telling.sites.definition(*place) {
+            sites.push(site)?;
+        }
+    }
+    Ok(sites)
 }
 
 /// That a name comes back to itself by these definitions.
@@ -360,7 +387,7 @@ fn name_class(telling: &Telling<'_>, key: &str) -> Result<Message, AllocError> {
     let sentence = format!(in telling.alloc;
         "a definition of `{name}`, of which this is the first, has a name class that is not allowed: * excepts *, p:* excepts * or p:*, or an attribute may be named xmlns (RELAX NG, section 4.16)"
     )?;
-    let found = brought_definitions_of(telling, key)?;
-    let spot = spot_of(telling, found.first().map(|one| one.site));
+    let way = way_sites(telling)?;
+    let spot = spot_of(telling, way.first().copied());
     Ok(Message::new(telling.alloc, MessageKind::NameClass, spot, sentence))
 }

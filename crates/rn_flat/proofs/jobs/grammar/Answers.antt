@@ -6,4 +6,4 @@ use Rattle.rn_flat.proofs.jobs.grammar.Goals as goal
 pub returns-in-Ok : goal.returns-in-Ok
 returns-in-Ok c =
     let g = c.in-Ok.grammar in
-    subst (λ s. IsShortened s (short_texts g.uris) (grammar_view g.grammar)) c.in_ok-set.ensures c.in-Ok.ensures
+    λ is. subst (λ s. IsShortened s (short_texts g.uris) (grammar_view g.grammar)) is c.in-Ok.ensures

@@ -4,4 +4,4 @@ use Rattle.rn_simplify.specs.Verdict.{prints, IsVerdict}
 use Rattle.rn_flat.proofs.jobs.schema.Goals as goal
 
 pub returns-in-Ok : goal.returns-in-Ok
-returns-in-Ok c = subst (λ s. IsVerdict s (prints (string_bytes c.in-Ok.text))) c.in_ok-set.ensures c.in-Ok.ensures.verdict
+returns-in-Ok c = λ is. subst (λ s. IsVerdict s (prints (string_bytes c.in-Ok.text))) is c.in-Ok.ensures.verdict

@@ -7,5 +7,5 @@ returns c = record {
   modules = c.in_ok-lifted.lifted.modules.items;
   short = short_texts c.in_ok-grammar.grammar.uris;
   grammar = grammar_view c.in_ok-grammar.grammar.grammar;
-  is_grammar = c.in_ok-grammar.ensures;
+  is_grammar = c.in_ok-grammar.ensures c.in_ok-set.ensures;
 }
