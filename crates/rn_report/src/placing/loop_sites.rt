@@ -1,8 +1,8 @@
 // Loops of definitions that refer to each other outside elements.
 use super::defined::{Defined, Group, groups, number_of, uses};
 use super::sites::{Site, Sites};
-use rn_pattern::Rows;
-use rn_pattern::adjacency::loops::shortest_loop;
+use rn_graph::Rows;
+use rn_graph::loops::shortest_loop;
 use std::alloc::{AllocError, Global};
 
 /// The sites of a shortest loop that comes back to the key, in order: of each key that is passed, the first definition
