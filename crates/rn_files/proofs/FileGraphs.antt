@@ -15,9 +15,9 @@ use Rattle.rn_files.specs.declared.sources.Sources.{Sources}
 use Rattle.rn_files.specs.Sources.{HaveOwnNames, count_links, edges_of, AreSoundSources}
 use Rattle.rn_files.specs.inside.Sources.{differ_in_name, have_own_names}
 use Rattle.rn_modset.specs.Contributions.{is_module_name}
-use Rattle.rn_pattern.specs.Graph.{AllBelow, row, IsGraph}
-use Rattle.rn_pattern.specs.Loops.{IsLoop}
-use Rattle.rn_pattern.specs.Ranks.{HasNoLoop, IsFirstLoop, Leads}
+use Rattle.rn_graph.specs.Graph.{AllBelow, row, IsGraph}
+use Rattle.rn_graph.specs.Loops.{IsLoop}
+use Rattle.rn_graph.specs.Ranks.{HasNoLoop, IsFirstLoop, Leads}
 
 -- numbers that were tested are less
 pub all_less : (n : ℕ) (xs : List ℕ) → list_all (λ x. nat_lt x n) xs ≡ true → All (λ x. x < n) xs

@@ -2,8 +2,8 @@
 use Rattle.std.specs.Prelude.{◌≡◌, ℕ, ◌<◌, ◌≢◌, true, List, [], ◌∷◌, map, All, length, count_by, string_bytes, ⊤}
 use Rattle.rn_outline.specs.Links.{is_link}
 use Rattle.rn_modset.specs.Contributions.{is_module_name}
-use Rattle.rn_pattern.specs.Graph.{IsGraph}
-use Rattle.rn_pattern.specs.Ranks.{HasNoLoop}
+use Rattle.rn_graph.specs.Graph.{IsGraph}
+use Rattle.rn_graph.specs.Ranks.{HasNoLoop}
 use Rattle.rn_files.specs.declared.sources.SourceFile.{SourceFile}
 use Rattle.rn_files.specs.declared.sources.Sources.{Sources}
 

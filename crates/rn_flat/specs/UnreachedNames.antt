@@ -1,7 +1,7 @@
 -- The names of definitions that the start doesn't reach (RELAX NG 2001, 4.19).
 use Rattle.std.specs.Prelude.{◌≡◌, ℕ, Bool, true, false, List, [], ◌∷◌, length, map, Some}
 use Rattle.rn_text.specs.Texts.{Text}
-use Rattle.rn_pattern.specs.Graph.{is_marked}
+use Rattle.rn_graph.specs.Graph.{is_marked}
 use Rattle.rn_pattern.specs.Matching.{Grammar}
 use Rattle.rn_pattern.specs.Reached.{IsReached}
 use Rattle.rn_pattern.specs.Tree.{Tree}

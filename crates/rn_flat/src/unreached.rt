@@ -1,6 +1,6 @@
 // The definitions of a grammar that the start doesn't reach.
 ghost use Rattle.std.specs.Prelude.{◌≡◌, ◌<◌, ◌||◌, [], ◌∷◌, ◌++◌, IfOk, OnOk, if◌then◌else◌, length, map, slice_index_or, string_bytes, vec_len, ℕ};
-ghost use Rattle.rn_pattern.specs.Graph.{AllBelow, is_marked};
+ghost use Rattle.rn_graph.specs.Graph.{AllBelow, is_marked};
 ghost use Rattle.rn_assemble.specs.GrammarView.{definitions_view, grammar_view};
 ghost use Rattle.rn_assemble.specs.SettlingOrder.{holds};
 ghost use Rattle.rn_flat.specs.UnreachedNames.{AreUnreached, TellReached, names_of_definitions, unmarked};

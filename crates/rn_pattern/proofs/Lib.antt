@@ -2,4 +2,4 @@ pub mod Matches
 pub mod CanonicalForms
 pub mod Ordered
 pub mod Stores
-pub mod Graphs
+pub mod DecidedByEach

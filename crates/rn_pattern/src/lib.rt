@@ -7,15 +7,13 @@
 //! [`Interned`] equal patterns have equal ids.
 //!
 //! [`laws`] has what is proved of canonical patterns. [`name_classes`] has the restrictions on name classes (4.16).
-//! [`adjacency`] has graphs whose nodes are numbers: definitions and what they refer to, modules and what they include.
-//! The edges of a graph are [`Rows`]; those of references, everywhere and outside elements, are [`ReferenceRows`].
+//! [`ReferenceRows`] are the references of definitions, everywhere and outside elements, as edges of graphs.
 //!
 //! [`boxes`] puts a value in a box of its own, or where it can be shared.
 //!
 //! Where a call answers `AllocError`, memory ran out; it refuses nothing else.
 #![tactic(auto)]
 
-pub mod adjacency;
 pub mod boxes;
 mod canonical;
 mod connector;
@@ -26,14 +24,14 @@ pub mod name_classes;
 pub mod node;
 mod node_parts;
 mod order;
+pub mod references;
 pub mod small_string;
 pub mod tables;
 pub mod tree;
 
-pub use adjacency::references::{NodeReferences, Reach, ReferenceRows};
-pub use adjacency::rows::Rows;
 pub use name_classes::XMLNS_URI;
 pub use node::{Node, NodeId};
+pub use references::{NodeReferences, Reach, ReferenceRows};
 pub use small_string::SmallString;
 pub use tables::hashing::Seed;
 pub use tables::interned::Interned;

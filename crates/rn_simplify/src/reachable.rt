@@ -3,7 +3,7 @@ ghost use Rattle.std.specs.Prelude.{◌≡◌, ◌∷◌, [], IfOk, IsPermutatio
 ghost use Rattle.std.specs.List.{IsDistinct};
 ghost use Rattle.std.specs.List.Sorted.{IsStrictlySortedBy};
 ghost use Rattle.std.specs.Slice.Iter.{iter_rest};
-ghost use Rattle.rn_pattern.specs.Graph.{is_marked, rows_of};
+ghost use Rattle.rn_graph.specs.Graph.{is_marked, rows_of};
 ghost use Rattle.rn_assemble.specs.GrammarView.{definitions_view};
 ghost use Rattle.rn_pattern.specs.Reached.{IsPruned};
 ghost use Rattle.rn_pattern.specs.View.{pattern_view};
@@ -13,8 +13,9 @@ ghost use Rattle.rn_simplify.specs.inside.MarkedElements.{marked_elements};
 
 use crate::references::add_references;
 use rn_assemble::Definitions;
-use rn_pattern::adjacency::graph::reached_nodes;
-use rn_pattern::{Pattern, Rows};
+use rn_graph::Rows;
+use rn_graph::graph::reached_nodes;
+use rn_pattern::Pattern;
 use std::alloc::{AllocError, Global};
 
 /// The forms that the start reaches, in the order of their names. All forms have the definitions' names, in order.
@@ -47,11 +48,9 @@ fn mark_reached(
     requires { map (λ d. d.0) (definitions_view forms.now)
         ≡ map (λ d. d.0) (definitions_view definitions.now.entries) }
     ensures size { IfOk result (λ marks. length marks.items ≡ length forms.now) }
-    ensures reached { IfOk result
-        (λ marks. MarksReached (record {
-          start = pattern_view start.now;
-          definitions = definitions_view forms.now;
-        }) marks.items) }
+    ensures reached { IfOk result (λ marks. MarksReached
+        (record { start = pattern_view start.now; definitions = definitions_view forms.now })
+        marks.items) }
 {
     let rows = references_of_forms(alloc, definitions, forms)?;
     let first = references_of(alloc, definitions, start)?;

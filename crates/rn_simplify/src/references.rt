@@ -1,12 +1,13 @@
 // The references of a pattern to the definitions of a grammar, in elements and outside (RELAX NG 2001, 4.18).
 ghost use Rattle.std.specs.Prelude.{◌≡◌, ◌∷◌, ◌++◌, [], OnOk};
 ghost use Rattle.rn_assemble.specs.GrammarView.{definitions_view};
-ghost use Rattle.rn_pattern.specs.Graph.{open_row, rows_of};
+ghost use Rattle.rn_graph.specs.Graph.{open_row, rows_of};
 ghost use Rattle.rn_pattern.specs.View.{pattern_view, shared_trees};
 ghost use Rattle.rn_simplify.specs.inside.DefinitionNumbers.{all_reference_numbers, numbers_of, reference_numbers};
 
 use rn_assemble::Definitions;
-use rn_pattern::{Pattern, Rows};
+use rn_graph::Rows;
+use rn_pattern::Pattern;
 use std::alloc::AllocError;
 use std::rc::Rc;
 

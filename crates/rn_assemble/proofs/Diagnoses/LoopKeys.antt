@@ -1,9 +1,9 @@
 -- The keys of a loop have rows.
 use Rattle.std.proofs.Common.{ℕ, ◌<◌, List, [], ◌∷◌, ⊎_elim, length, subst, arith}
 use Rattle.std.specs.Prelude.{slice_index_or}
-use Rattle.rn_pattern.specs.Graph.{AllBelow}
-use Rattle.rn_pattern.specs.Loops.{LeadOnTo}
-use Rattle.rn_pattern.proofs.Graphs.FirstLoop.{source_within}
+use Rattle.rn_graph.specs.Graph.{AllBelow}
+use Rattle.rn_graph.specs.Loops.{LeadOnTo}
+use Rattle.rn_graph.proofs.Graphs.FirstLoop.{source_within}
 use Rattle.rn_pattern.proofs.Ordered.InOrder.{contains_cases}
 
 pub loop_below : (rows : List (List ℕ)) (xs : List ℕ) (y : ℕ) → LeadOnTo rows xs y → AllBelow (length rows) xs

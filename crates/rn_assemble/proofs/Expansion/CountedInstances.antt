@@ -3,7 +3,7 @@ use Rattle.std.proofs.Common.{◌≡◌, ℕ, zero, suc, ◌+◌, ◌-◌, ◌<�
 use Rattle.std.specs.Prelude.{sum_by}
 use Rattle.std.proofs.lemmas.List.{take_all}
 use Rattle.std.proofs.lemmas.List.Sums.{sum_by_more}
-use Rattle.rn_pattern.specs.Graph.{row}
+use Rattle.rn_graph.specs.Graph.{row}
 use Rattle.rn_assemble.specs.inside.Instances.{instances_of}
 
 -- the count after the first i includes

@@ -6,7 +6,7 @@ use Rattle.std.proofs.lemmas.Bool.{eq-eqb, eqb-true, false≢true}
 use Rattle.std.proofs.lemmas.Grind.{get_or-set_at}
 use Rattle.std.proofs.lemmas.List.{get_or-set_other, take_more}
 use Rattle.std.proofs.lemmas.List.Folds.{concat-append, list_any-append, list_any_more}
-use Rattle.rn_pattern.specs.Graph.{is_marked, row}
+use Rattle.rn_graph.specs.Graph.{is_marked, row}
 use Rattle.rn_assemble.specs.declared.reading.named_modules.ModuleId.{ModuleId}
 use Rattle.rn_assemble.specs.inside.Inclusions.{entries}
 use Rattle.rn_assemble.specs.inside.Views.{module_numbers}

@@ -5,10 +5,10 @@ use Rattle.std.specs.List.Sorted.{IsStrictlySortedBy}
 use Rattle.std.proofs.lemmas.Bool.{cases_order}
 use Rattle.std.proofs.lemmas.List.{get_or-map, length-map, length_push}
 use Rattle.rn_text.specs.Texts.{Text, text_cmp}
-use Rattle.rn_pattern.specs.Graph.{AllBelow, row}
-use Rattle.rn_pattern.specs.Ranks.{HasNoLoop, IsFirstLoop}
+use Rattle.rn_graph.specs.Graph.{AllBelow, row}
+use Rattle.rn_graph.specs.Ranks.{HasNoLoop, IsFirstLoop}
 use Rattle.rn_pattern.proofs.Ordered.InOrder.{text_no_less}
-use Rattle.rn_pattern.proofs.Graphs.BuiltRows.{AreRows, is_graph, no_rows, row_before, row_behind, rows_pushed}
+use Rattle.rn_graph.proofs.Graphs.BuiltRows.{AreRows, is_graph, no_rows, row_before, row_behind, rows_pushed}
 use Rattle.rn_syntax.specs.View.{module_view}
 use Rattle.rn_assemble.specs.declared.reading.named_modules.NamedModule as code
 use Rattle.rn_assemble.specs.Components.{Includes, NamedModule, instance_limit, instances_within, roots, included_by}

@@ -12,10 +12,10 @@ use Rattle.std.proofs.lemmas.Map.Views.{Contains-from_any, list_any-from_Contain
 use Rattle.std.proofs.lemmas.Slice.Eq.{bytes_eq-Decides}
 use Rattle.rn_text.specs.Texts.{Text, text_cmp}
 use Rattle.rn_pattern.specs.References.{Reaches, by_one, by_more}
-use Rattle.rn_pattern.specs.Graph.{AllBelow, row}
-use Rattle.rn_pattern.specs.Ranks.{HasNoLoop, IsFirstLoop, Leads, by_edge, and_edge}
+use Rattle.rn_graph.specs.Graph.{AllBelow, row}
+use Rattle.rn_graph.specs.Ranks.{HasNoLoop, IsFirstLoop, Leads, by_edge, and_edge}
 use Rattle.rn_pattern.proofs.Ordered.InOrder.{contains_behind, contains_front, text_no_less}
-use Rattle.rn_pattern.proofs.Graphs.FirstLoop.{source_within}
+use Rattle.rn_graph.proofs.Graphs.FirstLoop.{source_within}
 use Rattle.rn_assemble.specs.Components.{Includes, NamedModule, included_by, instances_within, modules_named, roots}
 use Rattle.rn_syntax.specs.Tree.{includes}
 use Rattle.rn_assemble.specs.inside.Contained.{place_in}

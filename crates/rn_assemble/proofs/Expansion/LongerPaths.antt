@@ -2,8 +2,8 @@
 use Rattle.std.proofs.Common.{ℕ, List, Contains}
 use Rattle.rn_text.specs.Texts.{Text}
 use Rattle.rn_pattern.specs.References.{Reaches, by_one, by_more}
-use Rattle.rn_pattern.specs.Graph.{row}
-use Rattle.rn_pattern.specs.Ranks.{Leads, by_edge, and_edge}
+use Rattle.rn_graph.specs.Graph.{row}
+use Rattle.rn_graph.specs.Ranks.{Leads, by_edge, and_edge}
 
 pub lead_first : {rows : List (List ℕ)} {k m n : ℕ} → Contains (row rows k) m → Leads rows m n → Leads rows k n
 lead_first c (by_edge d) = and_edge (by_edge c) d

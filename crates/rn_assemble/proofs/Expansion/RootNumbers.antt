@@ -10,7 +10,7 @@ use Rattle.std.proofs.lemmas.List.Elements.{All-contains, All-filter, Contains-a
 use Rattle.std.proofs.lemmas.List.FromFn.{fill_by_all, get_or-range_with_len, length-range_with_len}
 use Rattle.std.proofs.lemmas.Slice.Eq.{bytes_eq-Decides}
 use Rattle.rn_text.specs.Texts.{Text, text_cmp}
-use Rattle.rn_pattern.specs.Graph.{AllBelow, IsGraph, row}
+use Rattle.rn_graph.specs.Graph.{AllBelow, IsGraph, row}
 use Rattle.rn_pattern.proofs.Ordered.InOrder.{contains_behind, contains_front}
 use Rattle.rn_assemble.specs.Components.{NamedModule, roots}
 use Rattle.rn_syntax.specs.Tree.{includes}

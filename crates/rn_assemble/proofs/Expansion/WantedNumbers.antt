@@ -9,9 +9,9 @@ use Rattle.std.proofs.lemmas.Bool.{false≢true}
 use Rattle.std.proofs.lemmas.Cmp.{nat_list_cmp_total}
 use Rattle.std.proofs.lemmas.List.Elements.{Contains-append_left, Contains-push, Contains-push_cases, filter_map-append}
 use Rattle.rn_text.specs.Texts.{Text, text_cmp}
-use Rattle.rn_pattern.specs.Graph.{AllBelow}
+use Rattle.rn_graph.specs.Graph.{AllBelow}
 use Rattle.rn_pattern.proofs.Ordered.InOrder.{contains_behind, contains_cases, contains_front}
-use Rattle.rn_pattern.proofs.Graphs.BuiltRows.{none_below}
+use Rattle.rn_graph.proofs.Graphs.BuiltRows.{none_below}
 use Rattle.rn_syntax.specs.Tree as t
 use Rattle.rn_syntax.specs.Tree.{Item, Items, includes, item_includes}
 use Rattle.rn_assemble.specs.Components.{NamedModule}

@@ -7,9 +7,9 @@ use Rattle.std.specs.declared.alloc.Global.{Global}
 use Rattle.std.proofs.lemmas.Bool.{cases_lt}
 use Rattle.std.proofs.lemmas.List.{get_or-map, get_or_default, length-map, take-append-drop, take_all, take_more}
 use Rattle.std.proofs.lemmas.List.Elements.{Contains-get_or}
-use Rattle.rn_pattern.specs.Graph.{row}
+use Rattle.rn_graph.specs.Graph.{row}
 use Rattle.rn_pattern.specs.Tree.{Tree}
-use Rattle.rn_pattern.proofs.Graphs.BuiltRows.{row_before, row_behind}
+use Rattle.rn_graph.proofs.Graphs.BuiltRows.{row_before, row_behind}
 use Rattle.rn_pattern.proofs.Ordered.InOrder.{contained_each}
 use Rattle.rn_text.specs.Texts.{Text, text_cmp}
 use Rattle.rn_pattern.specs.declared.tree.Pattern.{Pattern}

@@ -10,8 +10,8 @@ use Rattle.rn_pattern.proofs.Ordered.InOrder.{contained_each, each_contained}
 use Rattle.rn_pattern.specs.Reached.{RefersTo}
 use Rattle.rn_pattern.specs.References.{RefersOutside}
 use Rattle.rn_pattern.specs.Tree.{Tree}
-use Rattle.rn_pattern.specs.declared.adjacency.references.Reach.{Reach}
-use Rattle.rn_pattern.specs.declared.adjacency.references.Reach.TheVariants.{Everywhere, OutsideElements}
+use Rattle.rn_pattern.specs.declared.references.Reach.{Reach}
+use Rattle.rn_pattern.specs.declared.references.Reach.TheVariants.{Everywhere, OutsideElements}
 use Rattle.rn_syntax.specs.Tree.{Declaration, Pattern}
 use Rattle.rn_syntax.specs.View.{boxed_view}
 use Rattle.rn_text.specs.Texts.{Text}

@@ -10,10 +10,10 @@ use Rattle.rn_text.specs.Texts.{Text, text_cmp}
 use Rattle.rn_pattern.specs.Matching.{Grammar, definition_of}
 use Rattle.rn_pattern.specs.Reached.{RefersTo}
 use Rattle.rn_pattern.specs.References.{RefersOutside, IsUndefined}
-use Rattle.rn_pattern.specs.Graph.{row, rows_of}
-use Rattle.rn_pattern.specs.declared.adjacency.references.ReferenceRows.{ReferenceRows}
-use Rattle.rn_pattern.proofs.Graphs.FirstLoop.{source_within}
-use Rattle.rn_pattern.proofs.Graphs.BuiltRows.{row_before, row_behind}
+use Rattle.rn_graph.specs.Graph.{row, rows_of}
+use Rattle.rn_pattern.specs.declared.references.ReferenceRows.{ReferenceRows}
+use Rattle.rn_graph.proofs.Graphs.FirstLoop.{source_within}
+use Rattle.rn_graph.proofs.Graphs.BuiltRows.{row_before, row_behind}
 use Rattle.rn_assemble.specs.Components.{name_key, Component}
 use Rattle.rn_assemble.specs.Combine.{joined_pattern, joined_grammar, defined_names}
 use Rattle.rn_assemble.specs.inside.Keyed.{IsNameNumber, key_at}

@@ -14,9 +14,9 @@ use Rattle.rn_pattern.specs.Tree.{Tree}
 use Rattle.rn_pattern.specs.Matching.{Grammar, definition_of}
 use Rattle.rn_pattern.specs.Reached.{RefersTo, IsReached, by_start, by_definition}
 use Rattle.rn_pattern.specs.References.{RefersOutside}
-use Rattle.rn_pattern.specs.Graph.{row, is_marked, Reached, along}
-use Rattle.rn_pattern.specs.Ranks.{Leads, by_edge, and_edge, HasNoLoop, IsRanking, rank_of}
-use Rattle.rn_pattern.proofs.Graphs.FirstLoop.{source_within}
+use Rattle.rn_graph.specs.Graph.{row, is_marked, Reached, along}
+use Rattle.rn_graph.specs.Ranks.{Leads, by_edge, and_edge, HasNoLoop, IsRanking, rank_of}
+use Rattle.rn_graph.proofs.Graphs.FirstLoop.{source_within}
 use Rattle.rn_assemble.specs.Components.{Component, name_key}
 use Rattle.rn_assemble.specs.Combine.{joined_grammar, joined_pattern}
 use Rattle.rn_assemble.specs.inside.Keyed.{IsNameNumber}

@@ -11,13 +11,13 @@ use Rattle.std.specs.Borrow.{Bor}
 use Rattle.std.proofs.lemmas.Cmp.{nat_list_cmp_total}
 use Rattle.std.proofs.lemmas.List.Elements.{Contains-append_left, Contains-push, Contains-push_cases}
 use Rattle.rn_text.specs.Texts.{Text, text_cmp}
-use Rattle.rn_pattern.specs.Graph.{AllBelow}
-use Rattle.rn_pattern.proofs.Graphs.BuiltRows.{below_push}
+use Rattle.rn_graph.specs.Graph.{AllBelow}
+use Rattle.rn_graph.proofs.Graphs.BuiltRows.{below_push}
 use Rattle.rn_assemble.specs.inside.Keyed.{IsFound, IsNameNumber}
 use Rattle.rn_assemble.specs.inside.Referred.{AreNumbers, IsLeastUnmarked, IsMarkedName, KeepsLeast, lesser_text, names_within, number_within, reference_view, within}
 use Rattle.rn_assemble.specs.inside.Views.{texts_of}
-use Rattle.rn_pattern.specs.declared.adjacency.references.Reach.{Reach}
-use Rattle.rn_pattern.specs.declared.adjacency.references.Reach.TheVariants.{Everywhere, OutsideElements}
+use Rattle.rn_pattern.specs.declared.references.Reach.{Reach}
+use Rattle.rn_pattern.specs.declared.references.Reach.TheVariants.{Everywhere, OutsideElements}
 use Rattle.rn_assemble.specs.declared.by_key.references.Reference.{Reference}
 use Rattle.rn_assemble.specs.declared.reading.keys.KeyId.{KeyId}
 use Rattle.rn_assemble.proofs.Referring.KeyNumbers.{not_itself, numbered_name, same_number}

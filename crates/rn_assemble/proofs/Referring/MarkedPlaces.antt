@@ -8,7 +8,7 @@ use Rattle.std.proofs.lemmas.Bool.Decides.{Decides-eqb}
 use Rattle.std.proofs.lemmas.List.Elements.{Contains-append_left, Contains-push, Contains-push_cases}
 use Rattle.std.proofs.lemmas.Map.Keys.{IsDistinct-push}
 use Rattle.rn_pattern.proofs.Ordered.InOrder.{contains_front, contains_behind}
-use Rattle.rn_pattern.specs.Graph.{is_marked}
+use Rattle.rn_graph.specs.Graph.{is_marked}
 
 pub different : (b : Bool) (x y : ℕ) → nat_eq x y ≡ b → ¬ (x ≡ y) → b ≡ false
 different true x y e h = absurd (h ((Decides-eqb x y).0 e))

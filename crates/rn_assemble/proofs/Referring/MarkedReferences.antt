@@ -6,7 +6,7 @@ use Rattle.std.proofs.lemmas.Grind.{flat_map-append}
 use Rattle.std.proofs.lemmas.List.{drop_more}
 use Rattle.std.proofs.lemmas.List.Elements.{Contains-append_left, Contains-append_right, Contains-append_cases}
 use Rattle.rn_text.specs.Texts.{Text}
-use Rattle.rn_pattern.specs.declared.adjacency.references.Reach.{Reach}
+use Rattle.rn_pattern.specs.declared.references.Reach.{Reach}
 use Rattle.rn_assemble.specs.declared.reading.key_rows.WrittenComponent as code
 use Rattle.rn_assemble.specs.inside.Referred.{marked_references, names_within, references_at, within}
 

@@ -9,9 +9,9 @@ use Rattle.rn_pattern.specs.Matching.{Grammar, definition_of}
 use Rattle.rn_pattern.specs.Reached.{RefersTo, IsReached, by_start, by_definition}
 use Rattle.rn_pattern.specs.References.{RefersOutside, by_one, by_more, LeadsTo, IsRecursive}
 use Rattle.rn_pattern.proofs.Ordered.InOrder.{text_no_less}
-use Rattle.rn_pattern.specs.Graph.{row, is_marked, Reached, at_first, along}
-use Rattle.rn_pattern.specs.Ranks.{Leads, by_edge, and_edge, HasNoLoop, IsFirstLoop}
-use Rattle.rn_pattern.proofs.Graphs.FirstLoop.{source_within}
+use Rattle.rn_graph.specs.Graph.{row, is_marked, Reached, at_first, along}
+use Rattle.rn_graph.specs.Ranks.{Leads, by_edge, and_edge, HasNoLoop, IsFirstLoop}
+use Rattle.rn_graph.proofs.Graphs.FirstLoop.{source_within}
 use Rattle.rn_assemble.specs.Components.{name_key, Component}
 use Rattle.rn_assemble.specs.Combine.{joined_pattern, joined_grammar}
 use Rattle.rn_assemble.specs.inside.Keyed.{IsNameNumber, key_at}

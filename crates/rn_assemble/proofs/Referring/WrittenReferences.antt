@@ -13,8 +13,8 @@ use Rattle.rn_syntax.specs.Tree as t
 use Rattle.rn_syntax.specs.Tree.{Declaration, Pattern, Patterns}
 use Rattle.rn_assemble.specs.Resolve.{resolved_pattern, resolved_patterns}
 use Rattle.rn_assemble.specs.inside.Referred.{references, all_references, names_within, within}
-use Rattle.rn_pattern.specs.declared.adjacency.references.Reach.{Reach}
-use Rattle.rn_pattern.specs.declared.adjacency.references.Reach.TheVariants.{Everywhere, OutsideElements}
+use Rattle.rn_pattern.specs.declared.references.Reach.{Reach}
+use Rattle.rn_pattern.specs.declared.references.Reach.TheVariants.{Everywhere, OutsideElements}
 
 none : (y : Text) → Contains [] y ↔ ⊥
 none y = ((λ c. absurd (omega (arith, c.1))), λ h. absurd h)

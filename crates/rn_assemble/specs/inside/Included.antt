@@ -2,7 +2,7 @@
 use Rattle.std.specs.Prelude.{◌≡◌, ℕ, ◌<◌, List, length, map, sum_by}
 use Rattle.rn_text.specs.Texts.{Text}
 use Rattle.rn_pattern.specs.References.{Reaches}
-use Rattle.rn_pattern.specs.Graph.{AllBelow}
+use Rattle.rn_graph.specs.Graph.{AllBelow}
 use Rattle.rn_assemble.specs.Components.{NamedModule, Includes, instance_limit, instances, roots}
 use Rattle.rn_assemble.specs.Refusal.{Wants}
 use Rattle.rn_assemble.specs.inside.ContentsOf.{name_at}

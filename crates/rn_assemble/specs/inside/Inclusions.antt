@@ -2,7 +2,7 @@
 use Rattle.std.specs.Prelude.{◌≡◌, ℕ, ◌<◌, ◌==◌, not, List, [], length, map, filter, Contains, Option, Some, None}
 use Rattle.std.specs.List.{concat, list_any, range_with_len}
 use Rattle.rn_text.specs.Texts.{Text, text_cmp}
-use Rattle.rn_pattern.specs.Graph.{IsGraph, row}
+use Rattle.rn_graph.specs.Graph.{IsGraph, row}
 use Rattle.rn_assemble.specs.Components.{NamedModule, included_by, modules_named}
 use Rattle.rn_assemble.specs.inside.ContentsOf.{name_at}
 use Rattle.rn_assemble.specs.Least.{IsLeast}

@@ -14,7 +14,7 @@ use Rattle.rn_assemble.specs.Components.{Component, name_key}
 use Rattle.rn_assemble.specs.inside.Keyed.{IsNameNumber, key_at}
 use Rattle.rn_assemble.specs.inside.Views.{key_numbers}
 use Rattle.rn_assemble.specs.inside.Referred.{IsLeastRecursive}
-use Rattle.rn_pattern.specs.Graph.{Reached, is_marked, row}
+use Rattle.rn_graph.specs.Graph.{Reached, is_marked, row}
 
 -- exactly the places that have a mark, each once
 pub record ArePlaces (marks : List Bool) (places : List ℕ) : Type 0 where

@@ -3,9 +3,9 @@ ghost use Rattle.std.specs.Prelude.{ℕ, ◌≡◌, ◌+◌, ◌<◌, ◌≤◌,
 ghost use Rattle.std.specs.List.{AllByRecursion};
 ghost use Rattle.std.specs.Option.{option_map_or};
 ghost use Rattle.rn_text.specs.Texts.{Text, text_cmp};
-ghost use Rattle.rn_pattern.specs.Graph.{AllBelow, IsGraph, rows_of};
+ghost use Rattle.rn_graph.specs.Graph.{AllBelow, IsGraph, rows_of};
 ghost use Rattle.rn_pattern.specs.References.{IsUndefined};
-ghost use Rattle.rn_pattern.specs.declared.adjacency.references.Reach.TheVariants.{Everywhere, OutsideElements};
+ghost use Rattle.rn_pattern.specs.declared.references.Reach.TheVariants.{Everywhere, OutsideElements};
 ghost use Rattle.rn_syntax.specs.View.{pattern_view, patterns_view};
 ghost use Rattle.rn_assemble.specs.Combine.{joined_grammar};
 ghost use Rattle.rn_assemble.specs.Components.{Component};

@@ -2,8 +2,8 @@
 ghost use Rattle.std.specs.Prelude.{ℕ, ◌<◌, ◌≡◌, IfOk, List, length, map, nat_eq, slice_index_or};
 ghost use Rattle.std.specs.List.Sorted.{IsStrictlySortedBy};
 ghost use Rattle.rn_text.specs.Texts.{Text, text_cmp};
-ghost use Rattle.rn_pattern.specs.Graph.{IsGraph, rows_of};
-ghost use Rattle.rn_pattern.specs.Ranks.{rank_of};
+ghost use Rattle.rn_graph.specs.Graph.{IsGraph, rows_of};
+ghost use Rattle.rn_graph.specs.Ranks.{rank_of};
 ghost use Rattle.rn_assemble.specs.Components.{Component, NamedModule};
 ghost use Rattle.rn_assemble.specs.declared.reading.keys.KeyId.{KeyId};
 ghost use Rattle.rn_assemble.specs.inside.FirstPlaces.{AreFirstPlaces};
@@ -20,9 +20,9 @@ ghost use Rattle.rn_assemble.specs.inside.Views.{key_numbers, names_of};
 use crate::including::segments::Segments;
 use crate::reading::key_rows::KeyRows;
 use crate::reading::keys::{KeyId, Keys, START};
+use rn_graph::graph::{marked_rows, reached_nodes};
+use rn_graph::ranks::{Order, ranks};
 use rn_pattern::ReferenceRows;
-use rn_pattern::adjacency::graph::{marked_rows, reached_nodes};
-use rn_pattern::adjacency::ranks::{Order, ranks};
 use std::alloc::{AllocError, Global};
 
 /// An order of keys, or what stands against one.

@@ -1,6 +1,6 @@
 // Where a loop of definitions is that refer to each other outside elements (RELAX NG 2001, 4.19).
 ghost use Rattle.std.specs.Prelude.{length};
-ghost use Rattle.rn_pattern.specs.Graph.{AllBelow};
+ghost use Rattle.rn_graph.specs.Graph.{AllBelow};
 ghost use Rattle.rn_assemble.specs.inside.Pieces.{AreKnownBy, IsKnownRow};
 ghost use Rattle.rn_assemble.specs.inside.Views.{names_of};
 
@@ -10,8 +10,8 @@ use crate::by_key::settling_order::defined_keys;
 use crate::including::segments::Segments;
 use crate::reading::key_rows::{KeyRows, WrittenComponent};
 use crate::reading::keys::{KeyId, Keys};
+use rn_graph::loops::shortest_loop;
 use rn_pattern::Reach;
-use rn_pattern::adjacency::loops::shortest_loop;
 use std::alloc::{AllocError, Global};
 
 /// A shortest loop that comes back to the name: of each key that is passed, the first definition that refers to the next

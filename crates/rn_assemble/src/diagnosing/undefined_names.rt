@@ -1,6 +1,6 @@
 // Names that are referred to and not defined, with their first references (RELAX NG 2001, 4.18).
 ghost use Rattle.std.specs.Prelude.{◌≡◌, IfOk, length};
-ghost use Rattle.rn_pattern.specs.declared.adjacency.references.Reach.TheVariants.{Everywhere};
+ghost use Rattle.rn_pattern.specs.declared.references.Reach.TheVariants.{Everywhere};
 ghost use Rattle.rn_assemble.specs.inside.Diagnosing.{AddsUnmarked, AreUndefined, KeepsNames};
 ghost use Rattle.rn_assemble.specs.inside.Pieces.{AreKnownBy, OfKeys};
 ghost use Rattle.rn_assemble.specs.inside.Referred.{marked_references, names_within, references_at};

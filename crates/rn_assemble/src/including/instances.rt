@@ -1,10 +1,10 @@
 // The number of instances of a module, counted no further than a limit.
 ghost use Rattle.std.specs.Prelude.{◌≡◌, ℕ, ◌<◌, ◌≤◌, length, min};
-ghost use Rattle.rn_pattern.specs.Graph.{IsGraph, rows_of};
+ghost use Rattle.rn_graph.specs.Graph.{IsGraph, rows_of};
 ghost use Rattle.rn_assemble.specs.inside.Instances.{instances_of};
 
 use crate::reading::named_modules::ModuleId;
-use rn_pattern::Rows;
+use rn_graph::Rows;
 
 /// The most instances of modules that a set may have: each root counts one, and so does each include that is followed
 /// from there, however often its module comes. A set with more is refused as `Refusal::Instances`.

@@ -2,19 +2,19 @@
 ghost use Rattle.std.specs.Prelude.{◌≡◌, ◌==◌, ℕ, true, IfNone, IfOk, MatchOption, length, string_bytes};
 ghost use Rattle.std.specs.List.{list_all};
 ghost use Rattle.rn_modset.specs.Contributions.{is_module_name};
-ghost use Rattle.rn_pattern.specs.Graph.{IsGraph, rows_of};
-ghost use Rattle.rn_pattern.specs.Loops.{IsLoop};
-ghost use Rattle.rn_pattern.specs.Ranks.{HasNoLoop, IsFirstLoop};
+ghost use Rattle.rn_graph.specs.Graph.{IsGraph, rows_of};
+ghost use Rattle.rn_graph.specs.Loops.{IsLoop};
+ghost use Rattle.rn_graph.specs.Ranks.{HasNoLoop, IsFirstLoop};
 ghost use Rattle.rn_files.specs.Sources.{AreSoundSources, count_links, edges_of};
 ghost use Rattle.rn_files.specs.inside.Sources.{are_below, differ_in_name, have_own_names};
 
 use super::following::link_of;
 use crate::source_faults::{FaultPlace, SourceFault, SourceFaultKind};
 use crate::sources::{SourceFile, Sources};
+use rn_graph::Rows;
+use rn_graph::loops::shortest_loop;
+use rn_graph::ranks::least_looped;
 use rn_modset::is_module_name;
-use rn_pattern::Rows;
-use rn_pattern::adjacency::loops::shortest_loop;
-use rn_pattern::adjacency::ranks::least_looped;
 use std::alloc::{AllocError, Global};
 
 /// Whether all numbers are less than the count.

@@ -2,7 +2,7 @@
 use Rattle.std.proofs.Common.{◌≡◌, Bool, true, false, cond, List, [], ◌∷◌, length, drop, refl, ap, ◌∙◌, arith}
 use Rattle.std.specs.List.{items_where_true}
 use Rattle.std.specs.List.Retain.{ReturnsInTurn, IsFiltered}
-use Rattle.rn_pattern.specs.Graph.{is_marked}
+use Rattle.rn_graph.specs.Graph.{is_marked}
 use Rattle.rn_simplify.specs.inside.MarkedElements.{marked_elements}
 
 -- a test that reads the marks one by one, and says `false` where none is left

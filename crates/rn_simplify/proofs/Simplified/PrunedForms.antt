@@ -22,7 +22,7 @@ use Rattle.rn_pattern.specs.Reached.{IsReached, IsPruned}
 use Rattle.rn_pattern.specs.View.{pattern_view}
 use Rattle.rn_pattern.specs.declared.tree.Pattern.{Pattern}
 use Rattle.rn_pattern.proofs.Ordered.InOrder.{contains_front, contains_behind, contains_cases}
-use Rattle.rn_pattern.specs.Graph.{is_marked}
+use Rattle.rn_graph.specs.Graph.{is_marked}
 use Rattle.rn_assemble.specs.GrammarView.{definitions_view}
 use Rattle.rn_simplify.specs.inside.MarkedElements.{marked_elements}
 use Rattle.rn_simplify.specs.inside.DefinitionNumbers.{MarksReached, numbers_of, rows_by}

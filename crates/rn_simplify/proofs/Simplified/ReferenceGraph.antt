@@ -7,7 +7,7 @@ use Rattle.rn_pattern.specs.Tree.{Tree}
 use Rattle.rn_text.specs.Texts.{Text}
 use Rattle.rn_pattern.specs.Matching.{Grammar}
 use Rattle.rn_pattern.specs.Reached.{IsReached, by_start, by_definition}
-use Rattle.rn_pattern.specs.Graph.{AllBelow, IsGraph, Reached, at_first, along, row}
+use Rattle.rn_graph.specs.Graph.{AllBelow, IsGraph, Reached, at_first, along, row}
 pub use Rattle.rn_assemble.proofs.Referring.DefinitionNumbers.{body_is, is_at, nothing, number_some}
 use Rattle.rn_simplify.specs.inside.DefinitionNumbers.{graph_of, number_of, numbers_of, rows_by, start_of}
 use Rattle.rn_simplify.specs.inside.ReferredNames.{references}

@@ -5,7 +5,7 @@ use Rattle.std.specs.Map.{lookup}
 use Rattle.rn_pattern.specs.Tree.{Tree, Trees}
 use Rattle.rn_text.specs.Texts.{Text}
 use Rattle.rn_pattern.specs.Matching.{Grammar}
-use Rattle.rn_pattern.specs.Graph.{Reached, is_marked}
+use Rattle.rn_graph.specs.Graph.{Reached, is_marked}
 use Rattle.rn_pattern.specs.Canonical.{canonical, ref_unless_settled}
 use Rattle.rn_simplify.specs.inside.ReferredNames.{all_references, references}
 pub use Rattle.rn_assemble.specs.SettlingOrder.{number_of}

@@ -1,7 +1,7 @@
 use Rattle.std.proofs.Common.{◌≡◌, List, length, ap, ◌∙◌, arith, String, string_bytes, Global}
 use Rattle.std.specs.Prelude.{◌||◌}
 use Rattle.std.proofs.lemmas.List.{length-map}
-use Rattle.rn_pattern.proofs.Graphs.Marking.{not_marked}
+use Rattle.rn_graph.proofs.Graphs.Marking.{not_marked}
 use Rattle.rn_pattern.specs.View.{pattern_view}
 use Rattle.rn_pattern.specs.declared.tree.Pattern.{Pattern}
 use Rattle.rn_assemble.specs.GrammarView.{definitions_view, grammar_view}

@@ -2,7 +2,7 @@ use Rattle.std.proofs.Common.{refl, ap, ◌∙◌, arith}
 use Rattle.std.specs.Prelude.{◌||◌}
 use Rattle.std.proofs.lemmas.List.{take_all}
 use Rattle.std.proofs.lemmas.List.Elements.{Contains-get_or}
-use Rattle.rn_pattern.specs.Graph.{is_marked}
+use Rattle.rn_graph.specs.Graph.{is_marked}
 use Rattle.rn_assemble.specs.SettlingOrder.{holds}
 use Rattle.rn_flat.proofs.ReachedMarks.{next_mark, no_mark}
 use Rattle.rn_flat.proofs.unreached.set_marks.Goals as goal

@@ -1,7 +1,7 @@
 -- The marks of the numbers so far are set.
 use Rattle.std.proofs.Common.{◌≡◌, ℕ, take, vec_len}
 use Rattle.std.specs.Prelude.{◌||◌}
-use Rattle.rn_pattern.specs.Graph.{is_marked}
+use Rattle.rn_graph.specs.Graph.{is_marked}
 use Rattle.rn_assemble.specs.SettlingOrder.{holds}
 use Rattle.rn_flat.proofs.unreached.set_marks.Given as goal
 

@@ -5,7 +5,7 @@ use Rattle.rn_pattern.specs.NameRules.{HasNameExcepts, HaveNameExcepts}
 use Rattle.rn_pattern.specs.Tree.{name_trees_of}
 use Rattle.rn_pattern.specs.View.{name_class_view}
 use Rattle.rn_pattern.specs.declared.tree.NameClass.{NameClass}
-use Rattle.rn_pattern.proofs.Graphs.Searches.DecidedByEach.{all_more, stops, ends}
+use Rattle.rn_pattern.proofs.DecidedByEach.{all_more, stops, ends}
 use Rattle.rn_pattern.proofs.name_classes.+name_excepts.Goals as goal
 
 pub have_name_excepts-returns-then-not-has_name_excepts : goal.have_name_excepts-returns-then-not-has_name_excepts

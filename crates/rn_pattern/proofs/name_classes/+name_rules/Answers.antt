@@ -8,7 +8,7 @@ use Rattle.std.specs.declared.alloc.Global.{Global}
 use Rattle.std.specs.declared.rc.Rc.{Rc}
 use Rattle.rn_pattern.specs.declared.tree.Pattern.{Pattern}
 use Rattle.rn_pattern.proofs.Ordered.PatternKinds.{group_seen, interleave_seen, choice_seen}
-use Rattle.rn_pattern.proofs.Graphs.Searches.DecidedByEach.{all_more, stops, ends}
+use Rattle.rn_pattern.proofs.DecidedByEach.{all_more, stops, ends}
 use Rattle.rn_pattern.proofs.name_classes.+name_rules.Goals as goal
 
 pub keep_name_rules-returns-then-not-keeps_name_rules : goal.keep_name_rules-returns-then-not-keeps_name_rules

@@ -5,7 +5,7 @@ use Rattle.rn_pattern.specs.NameRules.{HasNamesAlone, HaveNamesAlone}
 use Rattle.rn_pattern.specs.Tree.{name_trees_of}
 use Rattle.rn_pattern.specs.View.{name_class_view}
 use Rattle.rn_pattern.specs.declared.tree.NameClass.{NameClass}
-use Rattle.rn_pattern.proofs.Graphs.Searches.DecidedByEach.{all_more, stops, ends}
+use Rattle.rn_pattern.proofs.DecidedByEach.{all_more, stops, ends}
 use Rattle.rn_pattern.proofs.name_classes.+names_alone.Goals as goal
 
 pub have_names_alone-returns-then-not-has_names_alone : goal.have_names_alone-returns-then-not-has_names_alone

@@ -5,7 +5,7 @@ use Rattle.rn_pattern.specs.NameRules.{HasNoDeclaration, HaveNoDeclaration}
 use Rattle.rn_pattern.specs.Tree.{name_trees_of}
 use Rattle.rn_pattern.specs.View.{name_class_view}
 use Rattle.rn_pattern.specs.declared.tree.NameClass.{NameClass}
-use Rattle.rn_pattern.proofs.Graphs.Searches.DecidedByEach.{all_more, stops, ends}
+use Rattle.rn_pattern.proofs.DecidedByEach.{all_more, stops, ends}
 use Rattle.rn_pattern.proofs.name_classes.+no_declaration.Goals as goal
 
 pub have_no_declaration-returns-then-not-has_no_declaration : goal.have_no_declaration-returns-then-not-has_no_declaration

@@ -3,7 +3,7 @@ use Rattle.std.proofs.lemmas.Result.{IfOk-weaker}
 use Rattle.std.specs.Prelude.{Contains, Decides}
 use Rattle.rn_pattern.specs.Matching.{Grammar}
 use Rattle.rn_pattern.specs.View.{pattern_view}
-use Rattle.rn_pattern.specs.Graph.{IsGraph, Reached, is_marked, row, rows_of}
+use Rattle.rn_graph.specs.Graph.{IsGraph, Reached, is_marked, row, rows_of}
 use Rattle.rn_assemble.specs.GrammarView.{definitions_view}
 use Rattle.rn_simplify.specs.inside.DefinitionNumbers.{graph_of, start_of, rows_by}
 use Rattle.rn_simplify.specs.inside.ReferredNames.{references}

@@ -1,5 +1,5 @@
 use Rattle.std.proofs.Common.{◌≡◌, [], take}
-use Rattle.rn_pattern.specs.Graph.{open_row, rows_of}
+use Rattle.rn_graph.specs.Graph.{open_row, rows_of}
 use Rattle.rn_assemble.specs.GrammarView.{definitions_view}
 use Rattle.rn_simplify.specs.inside.DefinitionNumbers.{rows_by}
 use Rattle.rn_simplify.proofs.reachable.references_of_forms.Given as goal

@@ -2,7 +2,7 @@ use Rattle.std.proofs.Common.{◌≡◌, ◌++◌, append_assoc, sym, ap, ◌∙
 use Rattle.std.proofs.lemmas.List.{take_all}
 use Rattle.std.proofs.lemmas.Result.{on_ok_weaker}
 use Rattle.rn_assemble.specs.GrammarView.{definitions_view}
-use Rattle.rn_pattern.specs.Graph.{open_row}
+use Rattle.rn_graph.specs.Graph.{open_row}
 use Rattle.rn_pattern.specs.View.{pattern_view, shared_view, shared_trees}
 use Rattle.rn_simplify.specs.inside.DefinitionNumbers.{all_reference_numbers, numbers_of, reference_numbers}
 use Rattle.rn_simplify.proofs.Simplified.DefinitionNumbers.{numbers_more, of_members}

@@ -1,5 +1,5 @@
 use Rattle.std.proofs.Common.{◌≡◌, ◌++◌, take}
-use Rattle.rn_pattern.specs.Graph.{open_row, rows_of}
+use Rattle.rn_graph.specs.Graph.{open_row, rows_of}
 use Rattle.rn_assemble.specs.GrammarView.{definitions_view}
 use Rattle.rn_pattern.specs.View.{shared_trees}
 use Rattle.rn_simplify.specs.inside.DefinitionNumbers.{all_reference_numbers}

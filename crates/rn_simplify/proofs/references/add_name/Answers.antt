@@ -1,5 +1,5 @@
 use Rattle.std.proofs.Common.{◌++◌, append-nil, sym, ap, ◌∙◌}
-use Rattle.rn_pattern.specs.Graph.{open_row}
+use Rattle.rn_graph.specs.Graph.{open_row}
 use Rattle.rn_simplify.proofs.Simplified.DefinitionNumbers.{not_numbered, one_number}
 use Rattle.rn_simplify.proofs.references.add_name.Goals as goal
 

@@ -4,9 +4,9 @@ use Rattle.std.specs.List.{AllByRecursion}
 use Rattle.std.proofs.lemmas.List.{length_push}
 use Rattle.rn_pattern.specs.Reached.{RefersTo}
 use Rattle.rn_pattern.specs.References.{RefersOutside}
-use Rattle.rn_pattern.specs.Graph.{rows_of}
-use Rattle.rn_pattern.proofs.Graphs.BuiltRows.{is_graph, rows_pushed, no_rows}
-use Rattle.rn_pattern.specs.declared.adjacency.references.Reach.TheVariants.{Everywhere, OutsideElements}
+use Rattle.rn_graph.specs.Graph.{rows_of}
+use Rattle.rn_graph.proofs.Graphs.BuiltRows.{is_graph, rows_pushed, no_rows}
+use Rattle.rn_pattern.specs.declared.references.Reach.TheVariants.{Everywhere, OutsideElements}
 use Rattle.rn_assemble.specs.declared.including.pieces.Piece.{Piece}
 use Rattle.rn_assemble.specs.inside.Keyed.{key_at}
 use Rattle.rn_assemble.specs.inside.Referred.{AreLiveMarks, AreMarksOf, KeepsLeast, names_within, reference_view}

@@ -1,7 +1,7 @@
 -- The keys so far have their references, and what is held is the least name of them that has no mark.
 use Rattle.std.proofs.Common.{◌≡◌, ◌+◌, length, option_map}
-use Rattle.rn_pattern.specs.Graph.{rows_of}
-use Rattle.rn_pattern.proofs.Graphs.BuiltRows.{AreRows}
+use Rattle.rn_graph.specs.Graph.{rows_of}
+use Rattle.rn_graph.proofs.Graphs.BuiltRows.{AreRows}
 use Rattle.rn_assemble.specs.inside.Pieces.{OfKeys}
 use Rattle.rn_assemble.specs.inside.Views.{names_of}
 use Rattle.rn_assemble.proofs.Referring.GatheredReferences.{Gathered}

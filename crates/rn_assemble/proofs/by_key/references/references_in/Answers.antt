@@ -2,7 +2,7 @@
 use Rattle.std.proofs.Common.{◌<◌, ◌++◌, length, map, true, false, sym, ap, ◌∙◌, arith, append-nil}
 use Rattle.std.proofs.lemmas.List.{get_or_default}
 use Rattle.rn_syntax.specs.View.{pattern_view}
-use Rattle.rn_pattern.specs.declared.adjacency.references.Reach.TheVariants.{OutsideElements}
+use Rattle.rn_pattern.specs.declared.references.Reach.TheVariants.{OutsideElements}
 use Rattle.rn_assemble.specs.inside.Referred.{reference_view, references}
 use Rattle.rn_assemble.proofs.Referring.MarkedReferences.{marked_step, some_component}
 use Rattle.rn_assemble.proofs.by_key.references.references_in.Goals as goal

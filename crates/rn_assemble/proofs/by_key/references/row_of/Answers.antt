@@ -3,12 +3,12 @@ use Rattle.std.proofs.Common.{ℕ, ◌+◌, List, Option, [], ◌∷◌, ◌++�
 use Rattle.std.specs.Borrow.{Bor}
 use Rattle.std.proofs.lemmas.Bool.{false≢true}
 use Rattle.std.proofs.lemmas.List.{take_all}
-use Rattle.rn_pattern.proofs.Graphs.BuiltRows.{none_below}
-use Rattle.rn_pattern.specs.Graph.{AllBelow}
+use Rattle.rn_graph.proofs.Graphs.BuiltRows.{none_below}
+use Rattle.rn_graph.specs.Graph.{AllBelow}
 use Rattle.rn_assemble.specs.inside.Referred.{AreNumbers, KeepsLeast, names_within, reference_view, within}
 use Rattle.rn_assemble.specs.inside.Views.{names_of}
-use Rattle.rn_pattern.specs.declared.adjacency.references.Reach.{Reach}
-use Rattle.rn_pattern.specs.declared.adjacency.references.Reach.TheVariants.{Everywhere, OutsideElements}
+use Rattle.rn_pattern.specs.declared.references.Reach.{Reach}
+use Rattle.rn_pattern.specs.declared.references.Reach.TheVariants.{Everywhere, OutsideElements}
 use Rattle.rn_assemble.proofs.Referring.LeastUndefined.{below_within, keeps_marked, keeps_none, keeps_unmarked, marked_name, names_more, no_numbers, no_reference, number_found}
 use Rattle.rn_assemble.proofs.by_key.references.row_of.Goals as goal
 use Rattle.rn_assemble.proofs.by_key.references.row_of.Goals.{then-not-has_mark, else-not-has_mark}

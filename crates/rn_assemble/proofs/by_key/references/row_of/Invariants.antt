@@ -1,9 +1,9 @@
 -- The row has the keys of the references so far.
 use Rattle.std.proofs.Common.{◌+◌, length, map, option_map, take}
-use Rattle.rn_pattern.specs.Graph.{AllBelow}
+use Rattle.rn_graph.specs.Graph.{AllBelow}
 use Rattle.rn_assemble.specs.inside.Referred.{AreNumbers, KeepsLeast, names_within, reference_view}
 use Rattle.rn_assemble.specs.inside.Views.{names_of}
-use Rattle.rn_pattern.specs.declared.adjacency.references.Reach.TheVariants.{Everywhere, OutsideElements}
+use Rattle.rn_pattern.specs.declared.references.Reach.TheVariants.{Everywhere, OutsideElements}
 use Rattle.rn_assemble.proofs.by_key.references.row_of.Given as goal
 
 abbrev pub invariant-loop-reference : goal.invariant-loop-reference

@@ -1,7 +1,7 @@
 use Rattle.std.proofs.Common.{refl, subst, sym}
-use Rattle.rn_pattern.specs.Graph.{rows_of}
-use Rattle.rn_pattern.specs.Ranks.{IsOrdered, IsRanking, IsFirstLoop}
-use Rattle.rn_pattern.proofs.Graphs.BuiltRows.{row_within, kept_graph}
+use Rattle.rn_graph.specs.Graph.{rows_of}
+use Rattle.rn_graph.specs.Ranks.{IsOrdered, IsRanking, IsFirstLoop}
+use Rattle.rn_graph.proofs.Graphs.BuiltRows.{row_within, kept_graph}
 use Rattle.rn_assemble.specs.inside.ReferenceOrder.{AreReached}
 use Rattle.rn_assemble.specs.inside.Views.{key_numbers}
 use Rattle.rn_assemble.proofs.Referring.NumberedReferences.{none_recursive, least_recursive}

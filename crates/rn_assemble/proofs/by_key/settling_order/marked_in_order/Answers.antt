@@ -1,7 +1,7 @@
 use Rattle.std.proofs.lemmas.List.{get_or-map, length-map}
 use Rattle.std.proofs.Common.{rules, ◌<◌, length, ap, arith}
 use Rattle.std.proofs.lemmas.List.Sorted.{IsNonDecreasingBy-from_default, IsNonDecreasingBy-from_sort_by_key, IsPermutation-map}
-use Rattle.rn_pattern.specs.Ranks.{rank_of}
+use Rattle.rn_graph.specs.Ranks.{rank_of}
 use Rattle.rn_assemble.specs.declared.reading.keys.KeyId.{KeyId}
 use Rattle.rn_assemble.specs.inside.Views.{key_numbers}
 use Rattle.rn_assemble.proofs.Referring.KeyOrders.{places_in_order}

@@ -2,9 +2,9 @@
 use Rattle.std.proofs.Common.{ℕ, arith, subst}
 use Rattle.std.specs.Prelude.{Contains, MatchOption, Option, Vec}
 use Rattle.std.specs.declared.alloc.Global.{Global}
-use Rattle.rn_pattern.specs.Graph.{rows_of}
-use Rattle.rn_pattern.specs.Loops.{IsLoop}
-use Rattle.rn_pattern.specs.Ranks.{Leads}
+use Rattle.rn_graph.specs.Graph.{rows_of}
+use Rattle.rn_graph.specs.Loops.{IsLoop}
+use Rattle.rn_graph.specs.Ranks.{Leads}
 use Rattle.rn_assemble.specs.inside.Views.{names_of}
 use Rattle.rn_assemble.proofs.Diagnoses.LoopKeys.{loop_below}
 use Rattle.rn_assemble.proofs.diagnosing.loops.loop_of.Goals as goal

@@ -3,8 +3,8 @@ use Rattle.std.proofs.Common.{◌≡◌, ◌+◌, ◌<◌, ◌++◌, [], List, t
 use Rattle.std.proofs.lemmas.Grind.{flat_map-append}
 use Rattle.std.proofs.lemmas.List.{drop_all}
 use Rattle.rn_text.specs.Texts.{Text}
-use Rattle.rn_pattern.specs.declared.adjacency.references.Reach.{Reach}
-use Rattle.rn_pattern.specs.declared.adjacency.references.Reach.TheVariants.{Everywhere}
+use Rattle.rn_pattern.specs.declared.references.Reach.{Reach}
+use Rattle.rn_pattern.specs.declared.references.Reach.TheVariants.{Everywhere}
 use Rattle.rn_assemble.specs.declared.diagnosing.undefined_names.UndefinedName.{UndefinedName}
 use Rattle.rn_assemble.specs.inside.Diagnosing.{AddsUnmarked}
 use Rattle.rn_assemble.specs.inside.Referred.{marked_references, names_within, references_at, within}

@@ -1,8 +1,8 @@
 -- The names of the components so far were added.
 use Rattle.std.proofs.Common.{◌≡◌, ◌++◌, List, drop}
 use Rattle.rn_text.specs.Texts.{Text}
-use Rattle.rn_pattern.specs.declared.adjacency.references.Reach.{Reach}
-use Rattle.rn_pattern.specs.declared.adjacency.references.Reach.TheVariants.{Everywhere}
+use Rattle.rn_pattern.specs.declared.references.Reach.{Reach}
+use Rattle.rn_pattern.specs.declared.references.Reach.TheVariants.{Everywhere}
 use Rattle.rn_assemble.specs.inside.Diagnosing.{AddsUnmarked}
 use Rattle.rn_assemble.specs.inside.Referred.{marked_references, names_within}
 use Rattle.rn_assemble.specs.inside.Views.{names_of}

@@ -1,6 +1,6 @@
 -- The names of the references so far were added.
 use Rattle.std.proofs.Common.{map, take}
-use Rattle.rn_pattern.specs.declared.adjacency.references.Reach.TheVariants.{Everywhere}
+use Rattle.rn_pattern.specs.declared.references.Reach.TheVariants.{Everywhere}
 use Rattle.rn_assemble.specs.inside.Diagnosing.{AddsUnmarked}
 use Rattle.rn_assemble.specs.inside.Referred.{names_within, reference_view}
 use Rattle.rn_assemble.specs.inside.Views.{names_of}

@@ -1,7 +1,7 @@
 -- The names of one key more, and then all in order.
 use Rattle.std.proofs.Common.{◌≡◌, ◌≤◌, ◌<◌, List, suc, length, refl, sym, subst, arith}
 use Rattle.std.specs.List.{AllByRecursion}
-use Rattle.rn_pattern.specs.declared.adjacency.references.Reach.TheVariants.{Everywhere}
+use Rattle.rn_pattern.specs.declared.references.Reach.TheVariants.{Everywhere}
 use Rattle.rn_assemble.specs.declared.diagnosing.undefined_names.UndefinedName.{UndefinedName}
 use Rattle.rn_assemble.specs.declared.reading.keys.KeyId.{KeyId}
 use Rattle.rn_assemble.specs.inside.ReferenceOrder.{AreDefinedKeys}

@@ -1,7 +1,7 @@
 -- The instances of the roots so far, counted up to the limit.
 use Rattle.std.proofs.Common.{◌≡◌, ◌≤◌, ◌<◌, ℕ, min, take}
 use Rattle.std.specs.Prelude.{sum_by}
-use Rattle.rn_pattern.specs.Graph.{rows_of}
+use Rattle.rn_graph.specs.Graph.{rows_of}
 use Rattle.rn_assemble.specs.inside.Instances.{instances_of}
 use Rattle.rn_assemble.specs.inside.Views.{module_numbers}
 use Rattle.rn_assemble.proofs.including.inclusion.has_too_many_instances.Given as goal

@@ -3,9 +3,9 @@ use Rattle.std.proofs.Common.{ap, ◌∙◌, arith, eqb}
 use Rattle.std.specs.Prelude.{◌||◌}
 use Rattle.std.specs.List.{concat, list_any}
 use Rattle.std.proofs.lemmas.List.{take_all}
-use Rattle.rn_pattern.specs.Graph.{is_marked, rows_of}
-use Rattle.rn_pattern.proofs.Graphs.Marking.{not_marked}
-use Rattle.rn_pattern.proofs.Graphs.BuiltRows.{row_within}
+use Rattle.rn_graph.specs.Graph.{is_marked, rows_of}
+use Rattle.rn_graph.proofs.Graphs.Marking.{not_marked}
+use Rattle.rn_graph.proofs.Graphs.BuiltRows.{row_within}
 use Rattle.rn_assemble.proofs.Expansion.EntryMarks.{row_marked}
 use Rattle.rn_assemble.proofs.including.inclusion.included_marks.Goals as goal
 

@@ -1,7 +1,7 @@
 -- Marked are the modules of the rows so far.
 use Rattle.std.proofs.Common.{◌≡◌, ℕ, eqb, take, length, vec_len}
 use Rattle.std.specs.List.{concat, list_any}
-use Rattle.rn_pattern.specs.Graph.{is_marked, rows_of}
+use Rattle.rn_graph.specs.Graph.{is_marked, rows_of}
 use Rattle.rn_assemble.proofs.including.inclusion.included_marks.Given as goal
 
 abbrev pub invariant-loop-includer : goal.invariant-loop-includer

@@ -3,9 +3,9 @@ use Rattle.std.proofs.Common.{◌<◌, length, ap, sym, ◌∙◌, subst, arith}
 use Rattle.std.specs.Prelude.{IfSome, MatchOption, sum_by}
 use Rattle.std.proofs.lemmas.Bool.{false≢true}
 use Rattle.std.proofs.lemmas.List.{length-map}
-use Rattle.rn_pattern.specs.Graph.{rows_of}
-use Rattle.rn_pattern.specs.Ranks.{HasNoLoop, IsFirstLoop}
-use Rattle.rn_pattern.proofs.Graphs.BuiltRows.{below_still}
+use Rattle.rn_graph.specs.Graph.{rows_of}
+use Rattle.rn_graph.specs.Ranks.{HasNoLoop, IsFirstLoop}
+use Rattle.rn_graph.proofs.Graphs.BuiltRows.{below_still}
 use Rattle.rn_assemble.specs.declared.reading.named_modules.NamedModule.{NamedModule}
 use Rattle.rn_assemble.specs.Components.{instance_limit}
 use Rattle.rn_assemble.specs.inside.Included.{AreIncluded}

@@ -1,7 +1,7 @@
 -- The rows of the modules so far, and the row of one module more.
 use Rattle.std.proofs.Common.{ap, sym, ◌∙◌, subst, arith, None, Some}
 use Rattle.std.specs.String.{string_bytes}
-use Rattle.rn_pattern.specs.Graph.{rows_of}
+use Rattle.rn_graph.specs.Graph.{rows_of}
 use Rattle.rn_syntax.specs.View.{module_view}
 use Rattle.rn_assemble.specs.inside.Inclusions.{IsLeastAmong, IsMissing}
 use Rattle.rn_assemble.specs.Refusal.{IsFirstFor, missing}

@@ -1,5 +1,5 @@
 -- The rows of the modules so far.
-use Rattle.rn_pattern.specs.Graph.{rows_of}
+use Rattle.rn_graph.specs.Graph.{rows_of}
 use Rattle.rn_assemble.proofs.Expansion.FirstIncludes.{AreBegun}
 use Rattle.rn_assemble.proofs.including.inclusion.inclusions.Given as goal
 

@@ -4,7 +4,7 @@ use Rattle.std.specs.Prelude.{◌||◌}
 use Rattle.std.specs.List.{list_any}
 use Rattle.std.proofs.lemmas.List.{take_all}
 use Rattle.std.proofs.lemmas.List.Elements.{Contains-get_or}
-use Rattle.rn_pattern.specs.Graph.{is_marked}
+use Rattle.rn_graph.specs.Graph.{is_marked}
 use Rattle.rn_assemble.proofs.Expansion.EntryMarks.{mark_more, mark_none}
 use Rattle.rn_assemble.proofs.including.inclusion.mark_row.Goals as goal
 

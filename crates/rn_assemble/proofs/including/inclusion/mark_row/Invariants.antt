@@ -2,7 +2,7 @@
 use Rattle.std.proofs.Common.{◌≡◌, ℕ, eqb, take, vec_len}
 use Rattle.std.specs.Prelude.{◌||◌}
 use Rattle.std.specs.List.{list_any}
-use Rattle.rn_pattern.specs.Graph.{is_marked}
+use Rattle.rn_graph.specs.Graph.{is_marked}
 use Rattle.rn_assemble.proofs.including.inclusion.mark_row.Given as goal
 
 abbrev pub invariant-loop-node : goal.invariant-loop-node

@@ -4,7 +4,7 @@ use Rattle.std.specs.List.{enumerate_from, filter_map}
 use Rattle.std.proofs.lemmas.Iterator.{YieldsList-from_slice}
 use Rattle.std.proofs.lemmas.Iterator.Adapters.{items_from_extend}
 use Rattle.std.proofs.lemmas.Iterator.Consumers.{YieldsList-at, YieldsList-from_enumerate, YieldsList-from_filter_map}
-use Rattle.rn_pattern.specs.Graph.{rows_of}
+use Rattle.rn_graph.specs.Graph.{rows_of}
 use Rattle.rn_assemble.specs.inside.Views.{module_numbers}
 use Rattle.rn_assemble.proofs.Expansion.EntryMarks.{unmarked, unmarked_entries}
 use Rattle.rn_assemble.proofs.including.inclusion.roots.Goals as goal

@@ -1,7 +1,7 @@
 use Rattle.std.proofs.Common.{arith, ℕ, List, subst, ap, length, get_or}
 use Rattle.std.specs.Prelude.{Contains}
 use Rattle.std.proofs.lemmas.List.Elements.{Contains-get_or}
-use Rattle.rn_pattern.specs.Graph.{rows_of}
+use Rattle.rn_graph.specs.Graph.{rows_of}
 use Rattle.rn_assemble.proofs.Expansion.CountedInstances.{CountsTo, counts_more, counts_all}
 use Rattle.rn_assemble.proofs.including.instances.+instances_up_to.Goals as goal
 

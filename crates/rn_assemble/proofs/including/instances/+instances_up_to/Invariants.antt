@@ -1,4 +1,4 @@
-use Rattle.rn_pattern.specs.Graph.{rows_of}
+use Rattle.rn_graph.specs.Graph.{rows_of}
 use Rattle.rn_assemble.proofs.Expansion.CountedInstances.{CountsTo}
 use Rattle.rn_assemble.proofs.including.instances.+instances_up_to.Given as goal
 

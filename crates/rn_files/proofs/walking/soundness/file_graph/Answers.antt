@@ -1,4 +1,4 @@
-use Rattle.rn_pattern.specs.Graph.{rows_of}
+use Rattle.rn_graph.specs.Graph.{rows_of}
 use Rattle.rn_files.proofs.FileGraphs.{one_row_more}
 use Rattle.rn_files.proofs.walking.soundness.file_graph.Goals as goal
 

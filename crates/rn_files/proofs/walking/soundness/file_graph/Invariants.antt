@@ -1,5 +1,5 @@
 use Rattle.std.proofs.Common.{◌≡◌, take}
-use Rattle.rn_pattern.specs.Graph.{rows_of}
+use Rattle.rn_graph.specs.Graph.{rows_of}
 use Rattle.rn_files.specs.Sources.{edges_of}
 use Rattle.rn_files.proofs.walking.soundness.file_graph.Given as goal
 

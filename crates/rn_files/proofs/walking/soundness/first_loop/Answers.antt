@@ -1,7 +1,7 @@
 use Rattle.std.proofs.Common.{ℕ, Option, subst}
 use Rattle.std.specs.Prelude.{MatchOption}
-use Rattle.rn_pattern.specs.Graph.{rows_of}
-use Rattle.rn_pattern.specs.Ranks.{HasNoLoop, IsFirstLoop}
+use Rattle.rn_graph.specs.Graph.{rows_of}
+use Rattle.rn_graph.specs.Ranks.{HasNoLoop, IsFirstLoop}
 use Rattle.rn_files.proofs.FileGraphs.{loop_of_first}
 use Rattle.rn_files.proofs.walking.soundness.first_loop.Goals as goal
 

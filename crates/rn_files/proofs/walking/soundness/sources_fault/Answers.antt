@@ -1,9 +1,9 @@
 use Rattle.std.proofs.Common.{ℕ, Option, refl, sym, subst, ◌∙◌}
 use Rattle.std.specs.Prelude.{MatchOption, Vec}
 use Rattle.std.specs.declared.alloc.Global.{Global}
-use Rattle.rn_pattern.specs.Graph.{IsGraph, rows_of}
-use Rattle.rn_pattern.specs.Loops.{IsLoop}
-use Rattle.rn_pattern.specs.Ranks.{HasNoLoop, IsFirstLoop}
+use Rattle.rn_graph.specs.Graph.{IsGraph, rows_of}
+use Rattle.rn_graph.specs.Loops.{IsLoop}
+use Rattle.rn_graph.specs.Ranks.{HasNoLoop, IsFirstLoop}
 use Rattle.rn_files.proofs.FileGraphs.{graph_if, tested_sources}
 use Rattle.rn_files.proofs.walking.soundness.sources_fault.Goals as goal
 

@@ -1,5 +1,5 @@
 use Rattle.std.proofs.Common.{List, length, take}
-use Rattle.rn_pattern.specs.Graph.{AllBelow}
+use Rattle.rn_graph.specs.Graph.{AllBelow}
 use Rattle.rn_assemble.specs.Components.{NamedModule}
 use Rattle.rn_assemble.specs.inside.Bringing.{CanList}
 use Rattle.rn_assemble.specs.inside.Views.{module_numbers}

@@ -1,0 +1,4 @@
+pub mod Graph
+pub mod Ranks
+pub mod Loops
+pub mod inside

@@ -1,7 +1,0 @@
--- The search along the edges of a graph.
-pub mod EdgesLeft
-pub mod DecidedByEach
-pub mod Rising
-pub mod KeptGroups
-pub mod Closing
-pub mod Ranking

@@ -1,7 +1,0 @@
-use Rattle.rn_pattern.specs.Graph.{rows_of}
-use Rattle.rn_pattern.proofs.Graphs.FirstLoop.{first_within}
-use Rattle.rn_pattern.proofs.adjacency.ranks.least_looped.Goals as goal
-
-pub returns-clause-within : goal.returns-clause-within
-returns-clause-within c =
-    first_within (rows_of c.args.edges.now) c.in_ok-search_all.field-0.least c.in_ok-search_all.ensures.least

@@ -1,9 +1,0 @@
-use Rattle.std.proofs.Common.{length}
-use Rattle.rn_pattern.proofs.Graphs.Searches.Rising.{IsUniting}
-use Rattle.rn_pattern.proofs.adjacency.search.drop_bounds.Given as goal
-
-abbrev pub invariant-loop-bounds : goal.invariant-loop-bounds
-invariant-loop-bounds l = IsUniting l.fn.bounds.items l.bounds.items l.fn.place
-
-abbrev pub decreases-loop-bounds : goal.decreases-loop-bounds
-decreases-loop-bounds l = length l.bounds.items

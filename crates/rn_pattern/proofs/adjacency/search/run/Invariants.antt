@@ -1,9 +1,0 @@
-use Rattle.rn_pattern.specs.Graph.{rows_of}
-use Rattle.rn_pattern.specs.inside.Searching.{GroupsOn, work}
-use Rattle.rn_pattern.proofs.adjacency.search.run.Given as goal
-
-abbrev pub invariant-loop-search : goal.invariant-loop-search
-invariant-loop-search l = GroupsOn (rows_of l.edges) l.fn.search l.search
-
-abbrev pub decreases-loop-search : goal.decreases-loop-search
-decreases-loop-search l = work l.search
