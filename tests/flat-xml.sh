@@ -70,6 +70,9 @@ told entity 2:17 '&nbsp; is not defined: a document without type declaration has
 kind entity syntax
 printf '<grammar %s>\n  <start><value>a]]>b</value></start>\n</grammar>\n' "$rng" >section.rng
 told section 2:18 "]]> can't stand in text"
+printf '<grammar %s>\n  <start><value>a<b xmlns="u"/>c</value></start>\n</grammar>\n' "$rng" >foreign.rng
+told foreign 2:18 "an element of another namespace can't stand in \`value\`"
+kind foreign syntax
 printf '<grammar %s>\r  <start>\r\n    <ref name="x"/></start>\r</grammar>\r' "$rng" >returns.rng
 told returns 3:16 '`x` is not defined'
 printf '<grammar %s>\n  <start><n:text/></start>\n</grammar>\n' "$rng" >prefix.rng

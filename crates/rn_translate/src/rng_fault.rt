@@ -28,6 +28,9 @@ pub enum RngFaultKind {
         /// The element around it.
         outer: Kind,
     },
+    /// An element of another vocabulary in one that holds a text alone (section 3).
+    #[error("an element of another namespace can't stand in `{}`", .0.name())]
+    Foreign(Kind),
     /// A pattern too many: `start` and `attribute` have one.
     #[error("`{}` has one pattern", .0.name())]
     SecondPattern(Kind),

@@ -241,8 +241,8 @@ impl<'d, 'a> Translator<'d, 'a> {
         self.enter(levels, level, next, child)
     }
 
-    /// Begins a child of the innermost level, or passes it if it is none of RELAX NG. Answers the index of the element
-    /// that comes then.
+    /// Begins a child of the innermost level, or passes it if it is none of RELAX NG. Refused where that level holds a
+    /// text alone. Answers the index of the element that comes then.
     fn enter(
         &mut self,
         levels: &mut Vec<Level>,
@@ -256,6 +256,10 @@ impl<'d, 'a> Translator<'d, 'a> {
     {
         let kind = self.known_kind(child)?;
         if kind == Kind::Foreign {
+            let outer = around.open.holder.kind;
+            if outer.holds_text() {
+                return Err(RngFault::new(child.at, RngFaultKind::Foreign(outer)));
+            }
             let behind = behind(index, child);
             self.pass_foreign(index, behind);
             return Ok(behind);

@@ -48,6 +48,18 @@ this is no RELAX NG schema: its root is `start` of the namespace "http://relaxng
 <start><element><anyName>@@<name>a</name></anyName><text/></element></start>
 =>
 `name` can't stand in `anyName`
+--
+<start><value>a@@<x:b xmlns:x="u"/>c</value></start>
+=>
+an element of another namespace can't stand in `value`
+--
+<start><data type="token"><param name="p">@@<b xmlns="u"/></param></data></start>
+=>
+an element of another namespace can't stand in `param`
+--
+<start><element><name>a@@<b xmlns=""/></name><text/></element></start>
+=>
+an element of another namespace can't stand in `name`
 "#;
 
 #[test]
