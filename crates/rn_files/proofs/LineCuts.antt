@@ -1,9 +1,8 @@
 -- Facts on the lines of a text.
 use Rattle.std.proofs.Common.{◌≡◌, ℕ, suc, zero, ◌+◌, ◌<◌, ◌≤◌, subst, length-append, length-drop, true, false, cond, List, [], ◌∷◌, ◌++◌, length, get_or, take, drop, refl, ap, sym, ◌∙◌, append_assoc, arith, add-one}
 use Rattle.std.proofs.Math.Seq.{drop-cons, drop-drop}
-use Rattle.std.proofs.lemmas.List.{take_more, take_all, drop_all, append-nil, length-take-le, get_or-drop}
+use Rattle.std.proofs.lemmas.List.{take_more, append-nil, length-take-le, get_or-drop}
 use Rattle.std.proofs.lemmas.List.Folds.{concat-append}
-use Rattle.std.proofs.lemmas.Bool.Decides.{nat_tests}
 use Rattle.std.specs.List.{concat}
 use Rattle.std.proofs.lemmas.Str.{IsCharBoundary-start, IsCharBoundary-after_ascii}
 use Rattle.std.specs.Str.{IsUtf8, IsCharBoundary}
@@ -33,33 +32,6 @@ line_goes_on bs rest i within same unclosed e =
     ∙ ap (λ z. onto (take i bs) z) (lines_open (get_or bs i 0) (drop (i + 1) bs) (ap (λ z. closes (get_or bs i 0) z) (sym same) ∙ unclosed))
     ∙ onto_onto (take i bs) (get_or bs i 0 ∷ []) (lines (drop (i + 1) bs))
     ∙ ap (λ z. onto z (lines (drop (i + 1) bs))) (sym (take_more bs i 0 within))
-
--- a byte behind which a line ends
-line_is_cut : (bs rest : List ℕ) (i : ℕ) → i < length bs → rest ≡ drop (i + 1) bs → closes (get_or bs i 0) rest ≡ true
-    → lines bs ≡ onto (take i bs) (lines (drop i bs)) → lines bs ≡ take (i + 1) bs ∷ lines (drop (i + 1) bs)
-line_is_cut bs rest i within same closed e =
-    e ∙ ap (λ z. onto (take i bs) (lines z)) (at_byte bs i within)
-    ∙ ap (λ z. onto (take i bs) z) (lines_closed (get_or bs i 0) (drop (i + 1) bs) (ap (λ z. closes (get_or bs i 0) z) (sym same) ∙ closed))
-    ∙ ap (λ z. z ∷ lines (drop (i + 1) bs)) (sym (take_more bs i 0 within))
-
-closing_is_small : (b : ℕ) (rest : List ℕ) → closes b rest ≡ true → b < 128
-closing_is_small b rest h = grind (arith, nat_tests)
-
-pub line_is_closed : (bs rest : List ℕ) (i : ℕ) → i < length bs → rest ≡ drop (i + 1) bs → closes (get_or bs i 0) rest ≡ true
-    → lines bs ≡ onto (take i bs) (lines (drop i bs)) → ClosesAt bs (i + 1) (take (i + 1) bs) (drop (i + 1) bs)
-line_is_closed bs rest i within same closed e = record {
-  some = omega arith;
-  within = omega arith;
-  cut = line_is_cut bs rest i within same closed e;
-  ascii = let P : ℕ → Type 0 = λ n. get_or bs n 0 < 128 in
-      let back : i ≡ i + 1 - 1 = omega arith in subst P back (closing_is_small (get_or bs i 0) rest closed);
-}
-
--- no line ends at all
-pub line_is_all : (bs : List ℕ) (i : ℕ) → length bs ≤ i → lines bs ≡ onto (take i bs) (lines (drop i bs)) → lines bs ≡ bs ∷ []
-line_is_all bs i end e =
-    e ∙ ap (λ z. onto z (lines (drop i bs))) (take_all i bs end) ∙ ap (λ z. onto bs (lines z)) (drop_all i bs end)
-    ∙ ap (λ z. z ∷ []) (append-nil bs)
 
 -- behind the first line of the rest
 pub next_line : (bs rest : List ℕ) (start n : ℕ) (before : List (List ℕ)) → start ≤ length bs → rest ≡ drop start bs

@@ -145,11 +145,6 @@ pub first_found : (groups rest others : Groups) (g : Vec Map Global) (uri r : Li
 first_found groups rest others g uri r m (before, cut, none) first longest =
     (before, g, others, cut ∙ ap (λ x. before ++ x) first, none, longest)
 
--- where no group is left, none has a map
-pub all_passed : (groups rest : Groups) (uri : List ℕ) → IsPassed groups rest uri → rest ≡ [] → HasNoMapIn groups uri
-all_passed groups rest uri (before, cut, none) left =
-    let P : Groups → Type 0 = λ gs. HasNoMapIn gs uri in subst P (sym (cut ∙ ap (λ r. before ++ r) left ∙ append-nil before)) none
-
 -- a group without a map is passed, where it is the first of the rest
 pub group_passed : (groups rest : Groups) (d : Vec Map Global) (uri : List ℕ) → IsPassed groups rest uri → 1 ≤ length rest
     → HasNoMap (get_or rest 0 d).items uri → IsPassed groups (take (length rest - 1) (drop 1 rest)) uri

@@ -12,13 +12,6 @@ use Rattle.rn_files.specs.inside.UriReferences.{LeadAbove, finds_none}
 abbrev pub texts : List (Bor (List ℕ)) → List Segment
 texts ss = map (λ (s : Bor (List ℕ)). s.now) ss
 
-pub entered_here : (folder : List Segment) (s : Segment) → is_here s ≡ true → entered_folder folder s ≡ folder
-entered_here folder s h = ap (λ t. cond t folder (cond (is_up s) (outer folder) (folder ++ (s ∷ [])))) h
-
-pub entered_up : (folder : List Segment) (s : Segment) → is_here s ≡ false → is_up s ≡ true → entered_folder folder s ≡ outer folder
-entered_up folder s h u =
-    ap (λ t. cond t folder (cond (is_up s) (outer folder) (folder ++ (s ∷ [])))) h ∙ ap (λ t. cond t (outer folder) (folder ++ (s ∷ []))) u
-
 pub entered_other : (folder : List Segment) (s : Segment) → is_here s ≡ false → is_up s ≡ false → entered_folder folder s ≡ folder ++ (s ∷ [])
 entered_other folder s h u =
     ap (λ t. cond t folder (cond (is_up s) (outer folder) (folder ++ (s ∷ [])))) h ∙ ap (λ t. cond t (outer folder) (folder ++ (s ∷ []))) u

@@ -25,15 +25,6 @@ writes_nil w = record {
   too_large = λ h e. absurd cc;
 }
 
--- nothing is written once it has stopped
-pub writes_stopped : (bs : Text) (w : Writer) (s : XmlStop) → w.stopped ≡ Some s → Writes bs w w
-writes_stopped bs w s e = record {
-  stays = λ t h. h;
-  text = λ h. absurd cc;
-  within = λ h i. i;
-  too_large = λ h i. absurd cc;
-}
-
 stopped_or : (o : Option XmlStop) → (o ≡ None) ⊎ ((s : XmlStop) × (o ≡ Some s))
 stopped_or None = inl refl
 stopped_or (Some s) = inr (s, refl)
@@ -82,10 +73,6 @@ pub items_text-then : (n : ℕ) (is js : Items) → items_text n (items_then is 
 items_text-then n no_items js = refl
 items_text-then n (more_items i is) js = ap (λ t. item_text n i ++ t) (items_text-then n is js) ∙ sym (append_assoc (item_text n i) (items_text n is) (items_text n js))
 
-pub has_items-then : (is : Items) (i : Item) → has_items (items_then is (one_item i)) ≡ true
-has_items-then no_items i = refl
-has_items-then (more_items j js) i = refl
-
 pub has_items-behind : (is js : Items) → has_items js ≡ true → has_items (items_then is js) ≡ true
 has_items-behind no_items js h = h
 has_items-behind (more_items i is) js h = refl
@@ -93,10 +80,6 @@ has_items-behind (more_items i is) js h = refl
 pub items_then-none : (is : Items) → items_then is no_items ≡ is
 items_then-none no_items = refl
 items_then-none (more_items i is) = ap (more_items i) (items_then-none is)
-
--- items behind others
-pub writes_items : (n : ℕ) (is js : Items) {a b c : Writer} → Writes (items_text n is) a b → Writes (items_text n js) b c → Writes (items_text n (items_then is js)) a c
-writes_items n is js h k = writes_as (sym (items_text-then n is js)) (writes_then h k)
 
 pub writes_one : (n : ℕ) (i : Item) {a b : Writer} → Writes (item_text n i) a b → Writes (items_text n (one_item i)) a b
 writes_one n i h = writes_as (sym (append-nil (item_text n i))) h
@@ -111,10 +94,6 @@ has_chosen false k i = refl
 pub has_items-unwrapped : (w : Text) (i : Item) → has_items (unwrapped w i) ≡ true
 has_items-unwrapped w (string s) = refl
 has_items-unwrapped w (node u l attrs k) = has_chosen (bytes_eq l w) k (node u l attrs k)
-
-pub has_items-placed : (w : Option Operator) (i : Item) → has_items (placed w i) ≡ true
-has_items-placed None i = refl
-has_items-placed (Some op) i = has_items-unwrapped (operator_local op) i
 
 -- what is no group, interleave or choice is itself everywhere
 pub alone : (w : Option Operator) (l : Text) (attrs : List Attribute) (k : Items) → bytes_eq l (codes "group") ≡ false → bytes_eq l (codes "interleave") ≡ false → bytes_eq l (codes "choice") ≡ false → placed w (element l attrs k) ≡ one_item (element l attrs k)

@@ -11,4 +11,3 @@ pub mod OpenAtOnce
 pub mod Members
 pub mod GatheredTexts
 pub mod GatheredForms
-pub mod Views

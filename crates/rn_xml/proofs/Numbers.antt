@@ -28,9 +28,6 @@ pub record HasDigits (radix : ℕ) (cs : List ℕ) (number : ℕ) (rest : List �
   pub each : AllDigits radix digits
   pub value : number ≡ min (digits_value radix digits) most
 
-pub no_digits : (radix : ℕ) (cs : List ℕ) → HasDigits radix cs 0 cs
-no_digits radix cs = record { digits = []; splits = refl; each = tt; value = refl }
-
 saturated : (v radix d m : ℕ) → 0 < radix → min (min (min v m * radix) m + d) m ≡ min (v * radix + d) m
 saturated v radix d m some = ⊎_elim (λ less. fits (omega arith)) (λ more. full more) (cases_lt v m)
   where

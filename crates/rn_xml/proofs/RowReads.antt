@@ -26,10 +26,6 @@ module _ {X : Type 0} where
   got_cases (z ∷ xs) y zero x h = inl h
   got_cases (z ∷ xs) y (suc k) x h = ⊎_elim (λ old. inl old) (λ new. inr (ap suc new.0, new.1)) (got_cases xs y k x h)
 
-  pub got_end : (xs : List X) → slice_get xs (length xs) ≡ None
-  got_end [] = refl
-  got_end (x ∷ xs) = got_end xs
-
   pub got_all : (P : X → Type 0) (xs : List X) (k : ℕ) (x : X) → All P xs → slice_get xs k ≡ Some x → P x
   got_all P xs k x all h = subst P (get_or_from_slice_get xs k x x h) (all k x (slice_get_within xs k x h))
 

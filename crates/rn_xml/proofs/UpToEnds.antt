@@ -49,9 +49,6 @@ up_to_here end cs rest inner e = subst (λ l. IsUpTo end l [] (lines_of rest)) (
 abbrev pub Reaches : List ℕ → List ℕ → List ℕ → Type 0
 Reaches end cs rest = (inside after : List ℕ) → IsUpTo end rest inside after → (whole : List ℕ) × IsUpTo end cs whole after
 
-pub reaches_itself : (end cs : List ℕ) → Reaches end cs cs
-reaches_itself end cs inside after h = (inside, h)
-
 pub reaches_more : (end cs : List ℕ) (c : ℕ) (rest after : List ℕ) → list_all is_inner end ≡ true → Reaches end cs (lines_of rest) → rest ≡ c ∷ after → is_xml_char c ≡ true → ((behind : List ℕ) → rest ≢ end ++ behind)
     → Reaches end cs (lines_of after)
 reaches_more end cs c rest after inner far first legal absent inside behind h =

@@ -1,5 +1,5 @@
 -- The names that components define, one component after the other.
-use Rattle.std.proofs.Common.{◌≡◌, ◌<◌, ℕ, Bool, true, false, ◌||◌, cond, List, [], ◌∷◌, ◌++◌, length, get_or, map, filter, not, refl, sym, ap, ◌∙◌, inl, inr, append-nil}
+use Rattle.std.proofs.Common.{◌≡◌, ◌<◌, ℕ, Bool, true, false, cond, List, [], ◌∷◌, ◌++◌, length, get_or, map, filter, not, refl, sym, ap, ◌∙◌, inl, inr}
 use Rattle.std.specs.Prelude.{bytes_eq}
 use Rattle.std.specs.List.{list_any}
 use Rattle.std.proofs.lemmas.Bool.{false≢true, cases_Bool}
@@ -12,18 +12,6 @@ use Rattle.rn_assemble.specs.Combine.{defined_names, first_of, of_key}
 use Rattle.rn_assemble.specs.Components.{Component, Key, has_key, name_key, same_key, start_key}
 use Rattle.rn_assemble.proofs.Combined.Combinations.{is_some, named}
 use Rattle.rn_assemble.proofs.Referring.LeastKeys.{has_none}
-
-or_first : (a b : Bool) → (a || b) ≡ false → a ≡ false
-or_first true b e = e
-or_first false b e = refl
-
-or_second : (a b : Bool) → (a || b) ≡ false → b ≡ false
-or_second true b e = absurd (false≢true (sym e))
-or_second false b e = e
-
-or_other : (a b : Bool) → (a || b) ≡ true → b ≡ false → a ≡ true
-or_other true b e f = refl
-or_other false b e f = absurd (false≢true (sym f ∙ e))
 
 -- a text is the same either way
 same_either_at : (b : Bool) (x y : Text) → bytes_eq y x ≡ b → bytes_eq x y ≡ false → b ≡ false
@@ -39,31 +27,6 @@ first_behind start_key x ys n = refl
 first_behind (name_key y) x ys n =
     let p : Text → Bool = λ z. not (bytes_eq y z) in
     ap (λ zs. y ∷ zs) (filter-append p ys (x ∷ []) ∙ ap (λ b. filter p ys ++ cond (not b) (x ∷ []) []) (differs x y n))
-
-first_again : (k : Key) (x : Text) (ys : List Text) → same_key (name_key x) k ≡ true → first_of k (ys ++ x ∷ []) ≡ first_of k ys
-first_again start_key x ys e = absurd (false≢true e)
-first_again (name_key y) x ys e =
-    let p : Text → Bool = λ z. not (bytes_eq y z) in
-    let same : bytes_eq y x ≡ true = (bytes_eq-Decides y x).1 (sym ((bytes_eq-Decides x y).0 e)) in
-    ap (λ zs. y ∷ zs) (filter-append p ys (x ∷ []) ∙ ap (λ b. filter p ys ++ cond (not b) (x ∷ []) []) same ∙ append-nil (filter p ys))
-
--- one more component
-pub defined_start : (cs : List Component) (c : Component) → c.key ≡ start_key → defined_names (cs ++ c ∷ []) ≡ defined_names cs
-defined_start [] c e = ap (λ k. first_of k []) e
-defined_start (d ∷ cs) c e = ap (first_of d.key) (defined_start cs c e)
-
-pub defined_new : (cs : List Component) (c : Component) (x : Text) → c.key ≡ name_key x → has_key (name_key x) cs ≡ false → defined_names (cs ++ c ∷ []) ≡ defined_names cs ++ x ∷ []
-defined_new [] c x e n = ap (λ k. first_of k []) e
-defined_new (d ∷ cs) c x e n =
-    ap (first_of d.key) (defined_new cs c x e (or_second (same_key (name_key x) d.key) (has_key (name_key x) cs) n))
-    ∙ first_behind d.key x (defined_names cs) (or_first (same_key (name_key x) d.key) (has_key (name_key x) cs) n)
-
-pub defined_known : (cs : List Component) (c : Component) (x : Text) → c.key ≡ name_key x → has_key (name_key x) cs ≡ true → defined_names (cs ++ c ∷ []) ≡ defined_names cs
-defined_known [] c x e h = absurd (false≢true h)
-defined_known (d ∷ cs) c x e h = elim (cases_Bool (has_key (name_key x) cs)) [
-  | inl there ↦ ap (first_of d.key) (defined_known cs c x e there)
-  | inr none ↦ ap (first_of d.key) (defined_new cs c x e none) ∙ first_again d.key x (defined_names cs) (or_other (same_key (name_key x) d.key) (has_key (name_key x) cs) h none)
-]
 
 none_in : (cs : List Component) → is_some (map (λ (c : Component). c.body) cs) ≡ false → length cs ≡ 0
 none_in [] e = refl

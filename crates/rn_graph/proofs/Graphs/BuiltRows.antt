@@ -34,15 +34,9 @@ is_graph n rows h e = subst (λ (m : ℕ). AreRows m rows) (sym e) h
 pub below_still : (n : ℕ) (xs ys : List ℕ) → AllBelow n xs → ys ≡ xs → AllBelow n ys
 below_still n xs ys h e = subst (λ (l : List ℕ). AllBelow n l) (sym e) h
 
-pub below_pushed : (n : ℕ) (xs ys : List ℕ) (x : ℕ) → AllBelow n xs → x < n → ys ≡ xs ++ x ∷ [] → AllBelow n ys
-below_pushed n xs ys x h l e = below_still n (xs ++ x ∷ []) ys (below_push n xs x h l) e
-
 -- one row more
 pub rows_pushed : (n : ℕ) (rows rows' : List (List ℕ)) (xs : List ℕ) → AreRows n rows → AllBelow n xs → rows' ≡ rows ++ xs ∷ [] → AreRows n rows'
 rows_pushed n rows rows' xs h l e = subst (λ (rs : List (List ℕ)). AreRows n rs) (sym e) (rows_push n rows xs h l)
-
-pub graph_still : (rows rows' : List (List ℕ)) → IsGraph rows → rows' ≡ rows → IsGraph rows'
-graph_still rows rows' h e = subst (λ (rs : List (List ℕ)). IsGraph rs) (sym e) h
 
 -- what a node's edges lead to are nodes
 pub row_within : (rows : List (List ℕ)) (x : ℕ) (xs : List ℕ) → IsGraph rows → xs ≡ row rows x → AllBelow (length rows) xs

@@ -1,5 +1,5 @@
 -- A search that has not begun, and what it answers when all nodes are behind it.
-use Rattle.std.proofs.Common.{◌≡◌, ℕ, ◌+◌, ◌<◌, inl, inr, List, [], length, get_or, replicate, map, refl, sym, ap, ◌∙◌, subst, arith, below_more}
+use Rattle.std.proofs.Common.{◌≡◌, ℕ, ◌<◌, inl, inr, List, [], length, get_or, replicate, map, refl, sym, ap, ◌∙◌, subst, arith}
 use Rattle.std.specs.Prelude.{Contains, Option, Some, None, MatchOption, IfSome}
 use Rattle.std.proofs.lemmas.List.{length-map, length-replicate, get_or-map, get_or_past}
 use Rattle.std.proofs.lemmas.List.Sums.{count_by-le-length}
@@ -7,7 +7,7 @@ use Rattle.std.proofs.lemmas.Bool.{cases_lt}
 use Rattle.std.specs.Option.{is_some}
 use Rattle.rn_graph.specs.Graph.{row}
 use Rattle.rn_graph.specs.Ranks.{Leads, by_edge, and_edge, HasNoLoop, IsFirstLoop, IsRanking}
-use Rattle.rn_graph.specs.inside.Searching.{GroupingBy, Grouping, GroupsOn, IsClosed, IsLeastLooped, place_of}
+use Rattle.rn_graph.specs.inside.Searching.{GroupingBy, Grouping, IsClosed, IsLeastLooped, place_of}
 use Rattle.rn_graph.specs.declared.search.Search.{Search}
 use Rattle.rn_graph.proofs.Graphs.Searches.Ranking.{none_met}
 
@@ -61,13 +61,6 @@ module _ (rows : List (List ℕ)) where
     pub grouping : Grouping rows s
     pub empty : s.stack.items ≡ []
     pub behind : (x : ℕ) → x < root → place_of s.places.items x ≡ None → ⊥
-
-  pub searched_more : (a b : Search) (root : ℕ) → Searched a root → GroupsOn rows a b → b.stack.items ≡ [] → (place_of b.places.items root ≡ None → ⊥) → Searched b (root + 1)
-  searched_more a b root s g e met = record {
-    grouping = g.grouping;
-    empty = e;
-    behind = below_more (λ (x : ℕ). place_of b.places.items x ≡ None → ⊥) root (λ x h. g.kept x (s.behind x h)) met;
-  }
 
   module _ (s : Search) (searched : Searched s (length rows)) where
     is_closed : (x : ℕ) → x < length rows → IsClosed s.places.items s.stack.items x

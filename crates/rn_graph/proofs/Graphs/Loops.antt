@@ -11,7 +11,7 @@ use Rattle.rn_graph.specs.inside.Marking.{Marks}
 use Rattle.rn_graph.specs.inside.Walks.{IsWalk, WalksOn, first_of, node_at, place_before}
 use Rattle.rn_graph.specs.declared.loops.Walk.{Walk}
 use Rattle.rn_graph.proofs.Graphs.FirstLoop.{source_within}
-use Rattle.rn_graph.proofs.Graphs.Marking.{listed_fit, marked_below, one_more}
+use Rattle.rn_graph.proofs.Graphs.Marking.{marked_below, one_more}
 
 module _ (rows : List (List ℕ)) where
   edge_still : (x x' y y' : ℕ) → x' ≡ x → y' ≡ y → Contains (row rows x) y → Contains (row rows x') y'
@@ -21,10 +21,6 @@ module _ (rows : List (List ℕ)) where
   pub node_below : (w : Walk) (i : ℕ) → IsWalk rows w → i < length w.nodes.items → node_at w i < length rows
   node_below w i walk h =
       omega (arith, marked_below w.met.items (node_at w i) (walk.agrees.marked (node_at w i) (Contains-get_or w.nodes.items i 0 h)), walk.size)
-
-  -- no more nodes are met than there are
-  pub nodes_fit : (w : Walk) → IsWalk rows w → length w.nodes.items ≤ length rows
-  nodes_fit w walk = omega (arith, listed_fit w.met.items w.nodes.items walk.agrees, walk.size)
 
   -- a node that is new
   pub one_met : (w w' : Walk) (place node : ℕ) → IsWalk rows w → place < length w.nodes.items → Contains (row rows (node_at w place)) node
@@ -107,16 +103,6 @@ module _ (rows : List (List ℕ)) where
     pub met : (k : ℕ) → k < place → (y : ℕ) → Contains (row rows (node_at w k)) y → y < length rows → is_marked w.met.items y ≡ true
     pub opened : (k : ℕ) → k < place → ¬ Contains (row rows (node_at w k)) first
 
-  pub looks_from : (first : ℕ) (w : Walk) → IsWalk rows w → w.nodes.items ≡ first ∷ [] → Looking first w 0
-  looks_from first w walk e = record {
-    walk = walk;
-    some = omega (arith, ap length e);
-    begins = ap (λ (l : List ℕ). get_or l 0 0) e;
-    so_far = omega arith;
-    met = λ k h. absurd (omega (arith, h));
-    opened = λ k h. absurd (omega (arith, h));
-  }
-
   pub looks_on : (first : ℕ) (w w' : Walk) (place : ℕ) → place < length w.nodes.items → Looking first w place
       → ¬ Contains (row rows (node_at w place)) first → WalksOn rows (row rows (node_at w place)) w w' → Looking first w' (place + 1)
   looks_on first w w' place h so none m = record {
@@ -168,9 +154,6 @@ module _ (rows : List (List ℕ)) where
   -- the nodes from the place on, in their order: they lead on to the first one
   abbrev pub LeadsFrom : Walk → ℕ → List ℕ → Type 0
   LeadsFrom w place nodes = (others : List ℕ) × (reverse nodes ≡ node_at w place ∷ others) × LeadOnTo rows (node_at w place ∷ others) (first_of w)
-
-  pub leads_from_last : (w : Walk) (last : ℕ) (nodes : List ℕ) → nodes ≡ node_at w last ∷ [] → Contains (row rows (node_at w last)) (first_of w) → LeadsFrom w last nodes
-  leads_from_last w last nodes e c = ([], ap reverse e, (c, tt))
 
   pub leads_from_before : (w : Walk) (place before : ℕ) (nodes more : List ℕ) → IsWalk rows w → 0 < place → place < length w.nodes.items
       → before ≡ place_before w place → more ≡ nodes ++ node_at w before ∷ [] → LeadsFrom w place nodes → LeadsFrom w before more

@@ -3,7 +3,7 @@ use Rattle.std.proofs.Common.{◌≡◌, ℕ, ◌+◌, ◌<◌, ◌≤◌, ◌�
 use Rattle.std.specs.Prelude.{Contains, Decides}
 use Rattle.std.proofs.lemmas.List.{take_more, length_push, length-set, get_or-replicate, length-replicate, append_assoc, append-nil, get_or-set_same, get_or-set_other, get_or_past, get_or_default, get_or_append_left, length-append}
 use Rattle.std.proofs.lemmas.List.Elements.{Contains-append_left, Contains-append_right, Contains-append_cases, Contains-push, Contains-push_cases, Contains-get_or}
-use Rattle.std.proofs.lemmas.List.Sums.{sum_by-set, count_by-le-length}
+use Rattle.std.proofs.lemmas.List.Sums.{sum_by-set}
 use Rattle.std.proofs.lemmas.Bool.{cases_eq, cases_lt, false≢true}
 use Rattle.rn_graph.specs.Graph.{is_marked, row, Reached, at_first, along}
 use Rattle.rn_graph.specs.inside.Marking.{Agrees, Marks}
@@ -56,10 +56,6 @@ row_more xs i s o s1 o1 s2 o2 h m n =
 
 pub marked_below : (seen : List Bool) (y : ℕ) → is_marked seen y ≡ true → y < length seen
 marked_below seen y m = elim (cases_lt y (length seen)) [ inl h ↦ h | inr h ↦ absurd (false≢true (sym (get_or_past seen y false h) ∙ m)) ]
-
--- no more nodes are listed than there are
-pub listed_fit : (seen : List Bool) (order : List ℕ) → Agrees seen order → length order ≤ length seen
-listed_fit seen order a = omega (arith, a.size, count_by-le-length (λ (b : Bool). b) seen)
 
 -- the search so far: the rows of the nodes listed before next are done
 pub record Searching (rows : List (List ℕ)) (first : List ℕ) (seen : List Bool) (order : List ℕ) (next : ℕ) : Type 0 where

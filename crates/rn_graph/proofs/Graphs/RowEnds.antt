@@ -1,9 +1,9 @@
 -- Where the rows of a graph begin and end among its nodes.
-use Rattle.std.proofs.Common.{◌≡◌, ℕ, Bool, true, false, cond, Result, Ok, Err, OnOk, ◌+◌, ◌-◌, ◌<◌, ◌≤◌, List, [], ◌∷◌, ◌++◌, length, get_or, take, drop, refl, sym, ap, subst, ◌∙◌, zero, suc, arith}
+use Rattle.std.proofs.Common.{◌≡◌, ℕ, Bool, true, false, cond, Result, Ok, Err, ◌+◌, ◌-◌, ◌<◌, ◌≤◌, List, [], ◌∷◌, ◌++◌, length, get_or, take, drop, refl, sym, ap, subst, ◌∙◌, zero, suc, arith}
 use Rattle.std.specs.List.{slice_range}
 use Rattle.std.proofs.lemmas.List.{drop-take, take-take, take_rest, take-append-le, drop-append-le, length-take-le}
 use Rattle.std.proofs.Math.Seq.{drop-length}
-use Rattle.std.specs.Prelude.{is_ok, OnErr}
+use Rattle.std.specs.Prelude.{OnErr}
 use Rattle.rn_graph.specs.Graph.{rows_from}
 use Rattle.rn_graph.specs.inside.RowEnds.{AreEnds}
 
@@ -86,14 +86,6 @@ module _ (n : ℕ) (ns ns' more : List ℕ) (es : List ℕ) (a : AreEnds n 0 es)
   rest_grows q =
       ap (λ (xs : List ℕ). drop (get_or (0 ∷ es) (length es) 0) xs) q
       ∙ drop-append-le (get_or (0 ∷ es) (length es) 0) ns more (omega (arith, last_le n 0 es a, l))
-
-  pub rows_kept_if : {T E : Type 0} (r : Result T E) → ns' ≡ cond (is_ok r) (ns ++ more) ns → rows_from ns' 0 es ≡ rows_from ns 0 es
-  rows_kept_if (Ok x) q = rows_kept q
-  rows_kept_if (Err x) q = ap (λ (xs : List ℕ). rows_from xs 0 es) q
-
-  pub rest_grows_if : {T E : Type 0} (r : Result T E) → ns' ≡ cond (is_ok r) (ns ++ more) ns → OnOk r (drop (get_or (0 ∷ es) (length es) 0) ns' ≡ drop (get_or (0 ∷ es) (length es) 0) ns ++ more)
-  rest_grows_if (Ok x) q = rest_grows q
-  rest_grows_if (Err x) q = tt
 
   pub ends_kept : (n' : ℕ) (b : Bool) → n' ≡ cond b (n + length more) n → AreEnds n' 0 es
   ends_kept n' true q = ends_within n n' 0 es a (omega (arith, last_le n 0 es a, q))

@@ -69,9 +69,6 @@ has_scope plan ms h number stem name p =
     let stem_is : slice_get (stems_of plan) number ≡ Some stem = slice_get-map (λ (s : Scope). string_bytes s.stem) plan.scopes.items number ∙ ap (λ (o : Option Scope). option_map (λ (s : Scope). string_bytes s.stem) o) p.is_scope ∙ ap (λ (x : List ℕ). Some x) p.is_stem in
     (p.is_no_root, stem_is, subst (λ (n : List ℕ). (m : LiftedModule) × Contains ms m × BringsIn n m) p.is_entry (beyond_first (IsBrought plan ms) plan.scopes.items h number p.scope p.is_no_root p.is_scope))
 
-has_module_again : (ms ns : List LiftedModule) → ((m : LiftedModule) → Contains ms m → Contains ns m) → (name : List ℕ) (b : Basis) → HasModule ms name b → HasModule ns name b
-has_module_again ms ns f name b h = (h.0, f h.0 h.1, h.2, h.3)
-
 brought_again : (plan : Plan) (ms ns : List LiftedModule) → IsPermutation ms ns → (s : Scope) → IsBrought plan ms s → IsBrought plan ns s
 brought_again plan ms ns p s h = (h.0, Contains-permutation ms ns h.0 p h.1, h.2)
 

@@ -50,10 +50,6 @@ unfolding IsStrictlySortedBy
 rises_first [] m e = (tt, tt)
 rises_first (c ∷ cs) m e = absurd (omega arith)
 
-pub members_push : (cs : List Contribution) (c : Contribution) → members_of (cs ++ c ∷ []) ≡ members_of cs ++ member c ∷ []
-members_push [] c = refl
-members_push (x ∷ cs) c = ap (λ t. member x ∷ t) (members_push cs c)
-
 append_nil : (xs : List ℕ) → xs ++ [] ≡ xs
 append_nil [] = refl
 append_nil (x ∷ xs) = ap (λ t. x ∷ t) (append_nil xs)

@@ -60,9 +60,6 @@ pub record IsAhead (held rest others : List Member) : Type 0 where
   pub rises : Rises rest
   pub same : (q : Member) → In q others → has rest q ≡ has held q
 
-pub ahead_start : (held others : List Member) → Rises held → IsAhead held held others
-ahead_start held others s = record { rises = s; same = λ q h. refl }
-
 not_below_itself : (m : Member) → member_cmp m m ≢ Less
 not_below_itself m e = let h : Less ≡ Equal = sym e ∙ tied_itself members_total m in cc
 
@@ -143,10 +140,6 @@ ends_by_order s t front rest h o Equal false e i f g rs rt apart =
     let in_s : has s o ≡ true = has_from_in s o (subst (In o) (sym f) (in_right o front (h ∷ []) (inl (sym same)))) in
     let none : has s o ≡ false = apart o in_t in
     cc
-
--- the first list is empty: the second ends above it
-pub ends_none : (s : List Member) → EndsAbove s []
-ends_none s = (λ e. refl, λ front m e. tt)
 
 has_append : (xs ys : List Member) (q : Member) → has (xs ++ ys) q ≡ (has xs q || has ys q)
 has_append [] ys q = refl

@@ -3,7 +3,7 @@ use Rattle.std.proofs.Common.{◌≡◌, ◌<◌, inl, inr, ℕ, zero, suc, Bool
 use Rattle.rn_pattern.specs.Tree.{Tree, Trees, not_allowed, empty, text, ref, value, datum, datum_but, list, attribute, element, one_or_more, group, interleave, choice, no_trees, more_trees}
 use Rattle.rn_text.specs.Texts.{Text}
 use Rattle.rn_pattern.specs.Matching.{Grammar, definition_of}
-use Rattle.rn_pattern.specs.Canonical.{canonical_name, choice_step, group_step, interleave_step, one_or_more_step, list_step, attribute_step, datum_but_step, canonical, canonical_all, ref_unless_settled, settled_within, canonical_within}
+use Rattle.rn_pattern.specs.Canonical.{canonical_name, choice_step, group_step, interleave_step, one_or_more_step, list_step, attribute_step, datum_but_step, canonical, canonical_all, ref_unless_settled, settled_within}
 use Rattle.rn_pattern.specs.Reached.{RefersTo, SomeRefersTo}
 use Rattle.rn_pattern.specs.References.{RefersOutside}
 use Rattle.rn_pattern.proofs.CanonicalForms.Settled.{is_settled, Firm, canonical_firm, next, settled_canonical, solid_stand_in}
@@ -57,6 +57,3 @@ module _ (G : Grammar) (t : Text → Tree) (forms : (x : Text) → IsCanonicalPa
   settled_is zero x w l = absurd (omega (arith, l))
   settled_is (suc k) x w l =
       next_same k x (definition_of G x) refl w (λ p e y h. let (v, m) = falls x y p w e h in settled_is k y v (omega (arith, l, m))) ∙ sym (made x w)
-
-  pub canonical_within_is : (k : ℕ) (p : Tree) → ((x : Text) → RefersTo x p → Wanted x × (rank x < k)) → canonical_within k G p ≡ canonical t p
-  canonical_within_is k p f = canonical_same (settled_within k G) t p (λ x h. settled_is k x (f x h).0 (f x h).1)

@@ -1,5 +1,5 @@
 -- The trees of name classes and of patterns with a list of members.
-use Rattle.std.proofs.Common.{◌≡◌, [], ◌∷◌, map, Some, None, refl, sym, ap, subst, ◌∙◌}
+use Rattle.std.proofs.Common.{◌≡◌, [], ◌∷◌, map, Some, None, refl, sym, ap, ◌∙◌}
 use Rattle.std.specs.Prelude.{Box, Vec}
 use Rattle.std.specs.Rc.{rc_str_bytes}
 use Rattle.std.specs.declared.rc.RcStr.{RcStr}
@@ -29,11 +29,3 @@ layer (NameClass-F.NsName u None) h = refl
 layer (NameClass-F.NsName u (Some c)) h = refl
 layer (NameClass-F.Name u l) h = refl
 layer (NameClass-F.Choice v) h = absurd (h v refl)
-
--- a name class that is no choice stands for itself among members
-pub other_seen : (c : NameClass) → ((v : Vec NameClass Global) → c ≡ class.Choice v → ⊥) → names_within (name_class_view c) ≡ name_class_view c ∷ []
-other_seen c h =
-    let x = class.out-NameClass c in
-    let whole : class.roll-NameClass x ≡ c = class.roll-out-NameClass c in
-    subst (λ n. names_within (name_class_view n) ≡ name_class_view n ∷ []) whole
-    (subst (λ t. names_within t ≡ t ∷ []) (sym (fold-roll-NameClass NameTree name_class_step x)) (layer x (λ v e. h v (sym whole ∙ ap class.roll-NameClass e ∙ rolls-Choice v))))

@@ -1,6 +1,6 @@
 -- The bytes of an element's characters are its text.
 use Rattle.std.proofs.lemmas.Bool.Decides.{nat_tests}
-use Rattle.std.proofs.Common.{◌≡◌, ℕ, zero, suc, ◌+◌, ◌≤◌, Bool, true, false, List, [], ◌∷◌, ◌++◌, refl, sym, ap, ◌∙◌, ⊎_elim, append-nil, arith}
+use Rattle.std.proofs.Common.{◌≡◌, ℕ, zero, suc, ◌+◌, Bool, true, false, List, [], ◌∷◌, ◌++◌, refl, sym, ap, ◌∙◌, ⊎_elim, append-nil, arith}
 use Rattle.std.specs.Prelude.{codes, encode_utf8_all, ◌<◌, ◌&&◌, nat_lt, nat_le}
 use Rattle.std.specs.List.{list_all}
 use Rattle.std.specs.Str.{IsUtf8, chars}
@@ -41,9 +41,6 @@ highs_stay : (h : Holder) (bs : List ℕ) → list_all is_high bs ≡ true → e
 highs_stay h [] a = refl
 highs_stay h (b ∷ bs) a = let both = and_parts (is_high b) (list_all is_high bs) a in
     ap (λ front. front ++ escaped h bs) (high_stays h b both.0) ∙ ap (λ rest. b ∷ rest) (highs_stay h bs both.1)
-
-high_sum : (k m : ℕ) → 128 ≤ k → is_high (k + m) ≡ true
-high_sum k m h1 = grind (arith, nat_tests)
 
 two : (a b : ℕ) → is_high a ≡ true → is_high b ≡ true → list_all is_high (a ∷ b ∷ []) ≡ true
 two a b h k = and_from (is_high a) (is_high b && true) h (and_from (is_high b) true k refl)

@@ -140,14 +140,6 @@ front_read name a rest n h = record {
 pub apart : (x y : Text) → bytes_eq x y ≡ false → x ≢ y
 apart x y f e = false≢true (sym f ∙ (bytes_eq-Decides x y).1 e)
 
-rng_text : encode_utf8_all rng_uri ≡ rng_uri
-unfolding encode
-rng_text = refl
-
--- the attributes of the root, with its declaration
-pub root_written : List Attribute → List Written
-root_written a = record { name = xmlns; value = rng_uri } ∷ all_written a
-
 -- the front of the root's tag, which declares the namespace
 pub root_read : (name : List ℕ) (a : List Attribute) (rest : List ℕ) → is_ncname name ≡ true → AreSpellableAttributes a
     → IsTagFront ((codes "<" ++ (name ++ attributes_text (root_declaration rng_uri ∷ attributes_chars a))) ++ rest) name (record { name = xmlns; value = rng_uri } ∷ all_written a) rest

@@ -8,14 +8,13 @@ use Rattle.rn_pattern.specs.Order.{name_cmp}
 use Rattle.rn_pattern.specs.Matching.{Grammar, definition_of}
 use Rattle.rn_pattern.specs.Canonical.{put_once, sorted_once, name_class_of, names_within, name_choice_step, canonical_name, canonical_names}
 use Rattle.rn_pattern.specs.Reached.{IsCanonicalOf}
-use Rattle.rn_pattern.specs.Opened.{opened_grammar}
 use Rattle.rn_pattern.proofs.Ordered.Ascending.{each_flat, each_sorted_once}
-use Rattle.rn_pattern.proofs.CanonicalForms.KeptByForms.{IsKept, opened_kept}
-use Rattle.rn_pattern.proofs.CanonicalForms.KeptRules.{canonical_except, opened_except}
+use Rattle.rn_pattern.proofs.CanonicalForms.KeptByForms.{IsKept}
+use Rattle.rn_pattern.proofs.CanonicalForms.KeptRules.{canonical_except}
 use Rattle.rn_assemble.specs.WritableTexts.{IsWritableName, AreWritableNames, IsWritable, AreWritable}
 use Rattle.rn_assemble.specs.WellFormed.{HasWritableTexts}
 use Rattle.rn_simplify.proofs.Simplified.Forms.{found_in, form_source}
-use Rattle.rn_simplify.proofs.Simplified.Promises.{normal_start_kept, normal_kept, opened_definitions_kept, opened_entry}
+use Rattle.rn_simplify.proofs.Simplified.Promises.{normal_start_kept, normal_kept}
 use Rattle.rn_simplify.proofs.Simplified.WellFormed.{if_some_at, of_some}
 
 -- ---- name classes
@@ -123,12 +122,4 @@ normal_writable G N c w = record {
   definitions = λ x. if_some_at IsWritable (definition_of N x)
       (λ p e. normal_kept G N c IsWritable writable_kept (λ l x ps p f h. (h.0, h.1, canonical_except _ p h.2, f h.3)) (λ y q f. of_some IsWritable (definition_of G y) q f (w.definitions y)) x p e);
   names = λ x p h. let (q, g, is) = form_source _ G x p ((c.definitions x p).0 h).1 in w.names x q (found_in G x q g);
-}
-
-pub opened_writable : (N : Grammar) → HasWritableTexts N → HasWritableTexts (opened_grammar N)
-opened_writable N w = record {
-  start = opened_kept IsWritable writable_kept (λ l x ps p f h. (h.0, h.1, opened_except p h.2, f h.3)) N.start w.start;
-  definitions = λ x. if_some_at IsWritable (definition_of (opened_grammar N) x)
-      (λ p e. opened_definitions_kept N IsWritable writable_kept (λ l x ps p f h. (h.0, h.1, opened_except p h.2, f h.3)) (λ y q f. of_some IsWritable (definition_of N y) q f (w.definitions y)) x p e);
-  names = λ x o h. let (p, there, is) = opened_entry N.definitions x o h in w.names x p there;
 }

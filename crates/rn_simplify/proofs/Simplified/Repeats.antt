@@ -32,9 +32,6 @@ use Rattle.rn_simplify.proofs.Simplified.ReferredIn.{contains_none}
 -- ---- lists that hold the same
 
 module _ {X : Type 0} where
-  pub same_itself : (xs ys : List X) → xs ≡ ys → HaveSameMembers xs ys
-  same_itself xs ys e x = (λ c. subst (λ (l : List X). Contains l x) e c, λ c. subst (λ (l : List X). Contains l x) (sym e) c)
-
   within_more : (xs ys : List X) (x : X) → ((y : X) → Contains xs y → Contains ys y) → (y : X) → Contains (xs ++ x ∷ []) y → Contains (ys ++ x ∷ []) y
   within_more xs ys x f y c =
       ⊎_elim (λ d. Contains-append_left ys (x ∷ []) y (f y d)) (λ e. subst (λ z. Contains (ys ++ x ∷ []) z) e (Contains-push ys x)) (Contains-push_cases xs x y c)

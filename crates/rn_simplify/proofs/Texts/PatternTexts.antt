@@ -4,7 +4,6 @@ use Rattle.std.specs.Prelude.{codes, String, bytes_eq, ◌&&◌}
 use Rattle.std.specs.declared.alloc.Global.{Global}
 use Rattle.rn_pattern.specs.View.{parameters_view}
 use Rattle.std.specs.Str.{chars, encode_utf8_all, IsUtf8}
-use Rattle.std.proofs.Math.Dec.{eqb-suc-zero}
 use Rattle.rn_text.specs.Literals.{literal_bytes, segments, delimited, joined, literal_of}
 use Rattle.rn_text.specs.Parts.{Piece, text_of}
 use Rattle.rn_pattern.specs.Tree.{Parameters}
@@ -82,10 +81,6 @@ pub spaced_viewed : (xs : List (String Global × String Global)) (i : ℕ) {a b 
 spaced_viewed [] i h l k = absurd (omega (arith, l))
 spaced_viewed (x ∷ xs) zero h l k = absurd (omega (arith, h))
 spaced_viewed (x ∷ xs) (suc i) h l k = space_written k
-
-pub writes_bare_data : (f : Prefixes) (l x : Text) (ps : Parameters) {a b : Writer} → nat_eq (length ps) 0 ≡ true → Writes (type_piece f l x ∷ []) a b → Writes (datum_pieces f l x ps) a b
-writes_bare_data f l x [] e h = h
-writes_bare_data f l x (p ∷ ps) e h = absurd (let y = eqb-suc-zero (length ps) in cc)
 
 pub writes_data : (f : Prefixes) (l x : Text) (ps : Parameters) {a b c d z : Writer} → nat_eq (length ps) 0 ≡ false → Writes (type_piece f l x ∷ []) a b → WritesBytes (codes " { ") opening b c → Writes (params_pieces ps) c d → WritesBytes (codes " }") closing d z → Writes (datum_pieces f l x ps) a z
 writes_data f l x [] e h j k m = absurd cc

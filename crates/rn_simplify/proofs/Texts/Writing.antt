@@ -1,5 +1,5 @@
 -- What is appended piece by piece.
-use Rattle.std.proofs.Common.{◌≡◌, ℕ, ◌<◌, ◌≤◌, inl, inr, ◌⊎◌, List, [], ◌∷◌, ◌++◌, length, Option, Some, None, refl, sym, ap, ◌∙◌, subst, append_assoc, append-nil, length-append, arith}
+use Rattle.std.proofs.Common.{◌≡◌, ℕ, ◌<◌, inl, inr, ◌⊎◌, List, [], ◌∷◌, ◌++◌, length, Option, Some, None, refl, sym, ap, ◌∙◌, subst, append_assoc, append-nil, length-append, arith}
 use Rattle.std.specs.Prelude.{option_and_then, string_bytes}
 use Rattle.std.specs.Str.{encode_utf8_all}
 use Rattle.std.proofs.lemmas.Str.{encodes-append}
@@ -84,29 +84,6 @@ writes_pieces ps {bs} {k} {a} {b} e f h = record {
   appends = λ n. record { text = h.text n ∙ ap (λ t. string_bytes a.text ++ t) (sym e); depth = h.depth n ∙ same_depth ps k (depth_of a) f };
   within = h.within;
   too_large = λ n l. subst (λ t. max_text < length (string_bytes a.text ++ t)) (sym e) (h.too_large n l);
-}
-
--- a text that was appended to, before it is looked at how long it has become
-pub too_long : (bs : List ℕ) (a b : Writer) → string_bytes b.text ≡ string_bytes a.text ++ bs → a.stopped ≡ None → b.stopped ≡ Some TooLarge → max_text < length (string_bytes b.text) → WritesBytes bs none a b
-too_long bs a b e n s l = record {
-  stays = λ t h. cc;
-  text = λ h. absurd cc;
-  depth = λ h. absurd cc;
-  within = λ h i. absurd cc;
-  too_large = λ h i. subst (λ t. max_text < length t) e l;
-}
-
-nothing_opened : (o : Option ℕ) → o ≡ option_and_then (depth_behind none) o
-nothing_opened None = refl
-nothing_opened (Some n) = refl
-
-pub still_fits : (bs : List ℕ) (a b : Writer) → string_bytes b.text ≡ string_bytes a.text ++ bs → a.stopped ≡ None → b.stopped ≡ None → depth_of b ≡ depth_of a → length (string_bytes b.text) ≤ max_text → WritesBytes bs none a b
-still_fits bs a b e n s d l = record {
-  stays = λ t h. cc;
-  text = λ h. e;
-  depth = λ h. d ∙ nothing_opened (depth_of a);
-  within = λ h i. l;
-  too_large = λ h i. absurd cc;
 }
 
 bytes_too_large : (xs ys : List ℕ) {a b c : Writer} → WritesBytes xs none a b → WritesBytes ys none b c → a.stopped ≡ None → c.stopped ≡ Some TooLarge → (b.stopped ≡ None) ⊎ ((s : Stop) × (b.stopped ≡ Some s)) → max_text < length (string_bytes a.text ++ (xs ++ ys))

@@ -11,10 +11,6 @@ use Rattle.rn_syntax.specs.Places.{first, prefix_places, builtin_places, context
 
 -- ---- the order of the kinds
 
-pub rank_below : (k : FaultKind) → kind_rank k < 8
-rank_below kind.Encoding = omega arith
-rank_below k = omega arith
-
 pub one_kind : (j k : FaultKind) → kind_rank j ≡ kind_rank k → j ≡ k
 one_kind kind.Encoding kind.Encoding e = refl
 one_kind kind.Lexical kind.Lexical e = refl

@@ -37,10 +37,6 @@ pub alike_front : (front : Tokens) {t u : Tokens} → Alike t u → Alike (front
 alike_front [] a = a
 alike_front (x ∷ front) a = same
 
-pub alike_refl : (ts : Tokens) → Alike ts ts
-alike_refl [] = ends
-alike_refl (x ∷ ts) = same
-
 -- ---- steps
 
 module _ {A : Type 0} {V W : Tokens → A → Tokens → Type 0} {G : Tokens → Type 0} where
@@ -187,15 +183,6 @@ on_fault xs now at f.Memory rule h = tt
 pub alike_end : {now t : Tokens} → now ≡ [] → Alike t now → t ≡ []
 alike_end e ends = refl
 alike_end e same = cc
-
--- at the end no N begins
-pub stuck_end : {A : Type 0} {N : Tokens → A → Tokens → Type 0} {F : Tokens → Type 0} {now : Tokens} → now ≡ [] → ((x : A) (r : Tokens) → N [] x r → ⊥) → CanBe N → Stuck N F now now
-stuck_end {N = N} e h can = record {
-  front = [];
-  cut = refl;
-  begins = can;
-  refuses = λ t a x r d f. h x r (subst (λ (l : Tokens). N l x r) (alike_end e a) d);
-}
 
 -- what begins as a list with this token does
 pub alike_token : {x : Placed} {now next t : Tokens} → now ≡ x ∷ next → Alike t now → (u : Tokens) × (t ≡ x ∷ u)

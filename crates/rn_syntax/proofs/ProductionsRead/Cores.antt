@@ -93,9 +93,6 @@ module _ {ts now : Tokens} {c : NameClass} (h : Took IsNameClass (Starts behind_
 pub keyword_here : (xs : List Token) (at : ℕ) {w : Keyword} (v : Keyword) → at < length xs → first_terminal (rest xs at) ≡ keyword w → w ≡ v → (i : ℕ) × (rest xs at ≡ keyword v # i ∷ rest xs (at + 1))
 keyword_here xs at v h e f = terminal_at xs at (keyword v) h (e ∙ ap (λ (w : Keyword). keyword w) f)
 
-can_content : CanBe IsNamed
-can_content = can_then (λ more. (ident [] # 0 ∷ more, tree.name (tree.local []), g.one (g.plain (g.primary g.bare (g.word g.by_name) g.none)))) can_pair
-
 abbrev Element : Tokens → Pattern → Tokens → Type 0
 Element = Then IsNamed (λ x. Gives (tree.element x.0 x.1))
 

@@ -57,9 +57,6 @@ prefix_stuck k = record {
   refuses = λ t a p r d f. let w = to_word d in k.refuses t a w.0 r w.1 f;
 }
 
-can_prefix : CanBe (IsOf IsPrefixAt)
-can_prefix more = (ident [] # 0 ∷ more, ([], 0), of (prefix_at g.by_name))
-
 -- ---- uris
 
 inherited_from : {i : ℕ} {ts r : Tokens} {u : Uri} → IsUri (keyword k.Inherit # i ∷ ts) u r → (u ≡ t.inherited) × (r ≡ ts)

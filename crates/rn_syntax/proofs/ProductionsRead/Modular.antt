@@ -21,7 +21,7 @@ use Rattle.rn_syntax.specs.inside.Readers.{Alike, ends, same, Took, Stuck, Fault
 use Rattle.rn_syntax.specs.Spelled.{AreSpelled}
 use Rattle.rn_syntax.proofs.OneReading.OneClass.{may_one}
 use Rattle.rn_syntax.proofs.OneReading.OneTree.{component_front, component_grammar, keyword_note, is_grammar, items_front, may_item}
-use Rattle.rn_syntax.proofs.ProductionsRead.Compose.{Upto, Fits, Can, CanBe, upto_at, upto_token, upto_then, took_upto, stuck_upto, reads, stuck_in, took_gives, first_alike, fits_anything, fits_token, fits_gives, can_gives, alike_token}
+use Rattle.rn_syntax.proofs.ProductionsRead.Compose.{Upto, Fits, Can, upto_at, upto_token, upto_then, took_upto, stuck_upto, reads, stuck_in, took_gives, first_alike, fits_anything, fits_token, fits_gives, can_gives, alike_token}
 use Rattle.rn_syntax.proofs.ProductionsRead.Next.{first_next}
 use Rattle.rn_syntax.proofs.ProductionsRead.Itemized.{first_items_to, first_items_from, first_items_grammar, can_first_items}
 
@@ -79,9 +79,6 @@ module _ {ts now : Tokens} {i : ℕ} (e : Took (IsToken left_brace) Anything ts 
 
       pub grammar_took : {end : Tokens} → Took (Bare AreFollows) (Starts no_follow) behind tt end → Took IsGrammarEnd (Starts is_end) ts xs end
       grammar_took {end = end} l = took_upto (upto_then grammar_closed (reads (fits_follows xs) l)) (took_gives xs end)
-
-can_grammar : CanBe IsGrammarEnd
-can_grammar more = (left_brace # 0 ∷ right_brace # 0 ∷ more, [], both token (both g.none (both token (both g.none gives))))
 
 -- ---- bodies
 

@@ -1,26 +1,15 @@
 -- The tokens of a written literal read back to its text.
 use Rattle.std.proofs.lemmas.Bool.Decides.{nat_tests}
 use Rattle.std.proofs.Common.{◌≡◌, ℕ, ◌-◌, true, false, List, [], ◌∷◌, ◌++◌, length, take, refl, sym, ap, ◌∙◌, subst, arith, length-append, append_assoc, ⊎_elim, eqb-true, inl, inr}
-use Rattle.std.specs.Prelude.{codes, ◌==◌}
+use Rattle.std.specs.Prelude.{◌==◌}
 use Rattle.std.specs.List.{flat_map, onto_first, AllByRecursion}
 use Rattle.std.proofs.Math.Seq.{take-append_seam}
 use Rattle.rn_text.proofs.Quoting.WrittenLiterals.{segments_apart, segments_joined, shape}
 use Rattle.std.specs.Char.{is_ascii_hexdigit}
 use Rattle.std.specs.Str.Parse.{digits_value}
 use Rattle.std.proofs.lemmas.Bool.{cases_Bool, cond-false, and_left, and_right}
-use Rattle.rn_text.specs.Characters.{is_xml_char}
-use Rattle.rn_text.specs.Segments.{segment_text, text_after, opens_threefold, is_segment, escape_front, begins_with, is_x}
-use Rattle.rn_text.specs.Literals.{are_parted, segments, written, delimiter_for, delimited, literal_of}
-
--- small cases, by computing
-segment_cases : (segment_text (codes "'\\xx{41}'") ≡ codes "A") × (segment_text (codes "\"\"\"a\"b" ++ 10 ∷ codes "c\"\"\"") ≡ codes "a\"b" ++ 10 ∷ codes "c")
-    × (is_segment (codes "\"\\x{0}\"") ≡ false) × (is_segment (codes "\"\\x{22}\"") ≡ false) × (is_segment (codes "'\\x{22}'") ≡ true)
-unfolding is_xml_char
-segment_cases = (refl, refl, refl, refl, refl)
-
-literal_cases : (literal_of (codes "a\\xx") ≡ codes "\"a\\\" ~ \"xx\"") × (literal_of (codes "\"\"a") ≡ codes "'\"\"' ~ \"a\"") × (literal_of [] ≡ codes "\"\"")
-unfolding literal_of
-literal_cases = (refl, refl, refl)
+use Rattle.rn_text.specs.Segments.{segment_text, text_after, opens_threefold, escape_front, begins_with, is_x}
+use Rattle.rn_text.specs.Literals.{are_parted, segments, written, delimiter_for, delimited}
 
 -- no neighbours are parted
 abbrev pub Together : List ℕ → Type 0

@@ -102,16 +102,6 @@ named_front cs name (e.NamesEncoding.names {cs = inside} {mid = m} {rest = r} (d
   is_name = ee;
 }
 
-space_of : (name cs value rest : List ℕ) → IsNamedField name cs value rest → (r : List ℕ) × IsSpace cs r
-space_of name cs value rest f = (name ++ f.mid, f.space)
-
--- the ways in which none is named
-pub none_opens : (cs : List ℕ) → OpensNone cs → (name : List ℕ) → ¬ NamesEncoding cs name
-none_opens cs n name h =
-    let f = named_front cs name h in
-    let s = space_of (codes "version") f.inside f.number f.mid f.version in
-    n f.inside s.0 f.opens s.1
-
 module _ (cs inside : List ℕ) (front : cs ≡ codes "<?xml" ++ inside) where
   same_inside : (name : List ℕ) → (f : IsFront cs name) → inside ≡ f.inside
   same_inside name f = append_cancel_left (codes "<?xml") inside f.inside (sym front ∙ f.opens)

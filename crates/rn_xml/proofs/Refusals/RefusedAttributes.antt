@@ -1,8 +1,8 @@
 -- Attributes and ends of tags that are none.
 use Rattle.std.proofs.Common.{◌≡◌, ◌≢◌, ◌<◌, ℕ, true, false, List, [], ◌∷◌, ◌++◌, length, get_or, refl, sym, ap, ◌∙◌, subst, arith, inl, inr, ⊎_elim, append_assoc, length-append, Some, None}
-use Rattle.std.specs.Prelude.{◌==◌, ◌&&◌, ◌⊎◌, codes, All, Option, encode_utf8_all}
+use Rattle.std.specs.Prelude.{◌==◌, ◌&&◌, ◌⊎◌, All, Option, encode_utf8_all}
 use Rattle.std.specs.Str.{chars}
-use Rattle.std.proofs.lemmas.Bool.{and_parts, or_cases, true≢false, false≢true, eqb-true, false_from_ne_true}
+use Rattle.std.proofs.lemmas.Bool.{and_parts, or_cases, true≢false, false≢true, eqb-true}
 use Rattle.std.proofs.lemmas.Bool.Decides.{nat_tests}
 use Rattle.std.proofs.lemmas.List.{get_or_append_left}
 use Rattle.std.proofs.lemmas.Option.{get_or_from_slice_get, slice_get_within}
@@ -16,16 +16,15 @@ use Rattle.rn_xml.specs.XmlCharacters as x
 use Rattle.rn_xml.specs.XmlTags.{IsEq, IsAttribute, AreAttributes, WrittenAttribute, MayBind, AreDistinct, bindings, binding_before, declared_prefix}
 use Rattle.rn_xml.specs.XmlTags as t
 use Rattle.rn_xml.specs.declared.characters.QName.{QName}
-use Rattle.rn_xml.specs.inside.Fronts.{BeginsName, ends_name, closes_tag, is_tag_end, ends_attributes}
+use Rattle.rn_xml.specs.inside.Fronts.{BeginsName, ends_name, closes_tag, is_tag_end}
 use Rattle.rn_xml.specs.inside.Pieces.{SplitsName}
 use Rattle.rn_xml.specs.inside.TagTables.{AreUpToEnd, CannotAdd, IsBoundIn}
 use Rattle.rn_xml.specs.inside.WrittenAttributes.{DeclaresAs}
 use Rattle.rn_xml.proofs.Decoding.DeclarationFields.{space_there, white_run, white_all, some_white}
 use Rattle.rn_xml.proofs.Refusals.OneReading.Names.{qname_once, equals_ends, equals_once}
 use Rattle.rn_xml.proofs.Refusals.OneReading.Tags.{value_opens, quote_black, end_black, attribute_begins, start_black, attributes_lead, LeadsOn}
-use Rattle.rn_xml.proofs.Refusals.RefusedFronts.{lines_begin}
 use Rattle.rn_xml.proofs.RowReads.{got_left, got_last, got_all}
-use Rattle.rn_xml.proofs.Sources.{front_absent, inner_itself, inner_black, space_lines}
+use Rattle.rn_xml.proofs.Sources.{inner_itself, inner_black, space_lines}
 use Rattle.rn_xml.proofs.TagSteps.{bindings_push}
 
 -- ---- before a value
@@ -60,12 +59,6 @@ pub record EndsTag (cs : List ℕ) : Type 0 where
 
 pub closes_end : (cs : List ℕ) → closes_tag cs ≡ true → EndsTag cs
 closes_end cs e = ⊎_elim (λ one. record { sign = 62; rest = one.0; is = one.1; ends = refl }) (λ two. record { sign = 47; rest = 62 ∷ two.0; is = two.1; ends = refl }) (closes_cases cs e)
-
-pub no_tag_end : (cs : List ℕ) → begins_with (λ d. d == 62) cs ≡ false → ((behind : List ℕ) → cs ≢ codes "/>" ++ behind) → closes_tag (lines_of cs) ≡ false
-no_tag_end cs none absent = false_from_ne_true (closes_tag (lines_of cs)) (λ closes. ⊎_elim
-    (λ one. true≢false (ap (begins_with (λ d. d == 62)) (sym one.1) ∙ lines_begin (λ d. d == 62) cs refl none))
-    (λ two. front_absent (codes "/>") cs refl absent two.0 two.1)
-    (closes_cases (lines_of cs) closes))
 
 -- ---- declarations that may not be
 
@@ -202,10 +195,6 @@ lead_on cs mid rest first written h up =
 
 pub no_end_sign : (c : ℕ) → c ≢ 62 → c ≢ 47 → is_tag_end c ≡ false
 no_end_sign c a b = grind (arith, nat_tests)
-
--- what stops the attributes of a tag, before its line ends are line feeds
-pub ends_lines : (cs : List ℕ) (c : ℕ) (after : List ℕ) → cs ≡ c ∷ after → is_tag_end c ≡ true → ends_attributes (lines_of cs) ≡ true
-ends_lines cs c after e end = ap ends_attributes (ap lines_of e ∙ inner_itself c after (inner_black c (end_black c end))) ∙ end
 
 -- the attribute that follows can't be read
 pub next_refused : (cs spaced : List ℕ) (c : ℕ) (after : List ℕ) (source_cs : List ℕ) (first written : List WrittenAttribute) (rest : List ℕ) → spaced ≡ after_run is_white cs → spaced ≡ c ∷ after → is_tag_end c ≡ false

@@ -1,5 +1,5 @@
 -- Fronts of characters whose line ends are line feeds.
-use Rattle.std.proofs.Common.{◌≡◌, ◌≢◌, ℕ, Bool, true, false, List, [], ◌∷◌, ◌++◌, refl, sym, ap, ◌∙◌}
+use Rattle.std.proofs.Common.{◌≡◌, ◌≢◌, ℕ, Bool, true, false, List, [], ◌∷◌, ◌++◌, refl, ap, ◌∙◌}
 use Rattle.std.specs.Prelude.{◌==◌, Result, Ok, Err, IfErr}
 use Rattle.std.proofs.lemmas.Bool.{false≢true, eqb-true}
 use Rattle.rn_text.specs.Segments.{begins_with}
@@ -26,12 +26,3 @@ feed_first p (d ∷ ds) b = ap (λ a. begins_with p (lines_of (a ∷ ds))) (eqb-
 pub lines_begin : (p : ℕ → Bool) (cs : List ℕ) → p 10 ≡ false → begins_with p cs ≡ false → begins_with p (lines_of cs) ≡ false
 lines_begin p [] feed n = refl
 lines_begin p (c ∷ cs) feed n = ap (begins_with p) (lines_step c cs) ∙ normal_cases (λ l. begins_with p (l ++ lines_of cs) ≡ false) c cs (λ r f. feed_first p cs f ∙ feed) feed n
-
-pub some_lines : (c : ℕ) (cs : List ℕ) → lines_of (c ∷ cs) ≢ []
-some_lines c cs e = normal_cases (λ l. l ++ lines_of cs ≢ []) c cs (λ r f none. feed_some cs f none) (λ none. no_cons none) (λ none. no_cons none) (sym (lines_step c cs) ∙ e)
-  where
-    no_cons : {d : ℕ} {ds : List ℕ} → d ∷ ds ≢ []
-    no_cons h = cc
-
-    feed_some : (cs : List ℕ) → begins_with (λ d. d == 10) cs ≡ true → lines_of cs ≢ []
-    feed_some cs f none = false≢true (ap (begins_with (λ d. d == 10)) (sym none) ∙ feed_first (λ d. d == 10) cs f)

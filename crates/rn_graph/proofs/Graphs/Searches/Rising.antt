@@ -70,9 +70,6 @@ pub record IsUniting (old now : List ℕ) (place : ℕ) : Type 0 where
   pub front : (n : ℕ) × (now ≡ take n old)
   pub kept : (c : ℕ) → Contains old c → c ≤ place → Contains now c
 
-pub uniting_begins : (old : List ℕ) (place : ℕ) → IsUniting old old place
-uniting_begins old place = record { front = (length old, sym (take_all (length old) old (omega arith))); kept = λ c k l. k }
-
 pub uniting_goes_on : (old now now' : List ℕ) (place x n : ℕ) → IsUniting old now place → n ≡ length now → x ≡ get_or now (n - 1) 0 → 0 < n → place < x → now' ≡ take (n - 1) now → IsUniting old now' place
 uniting_goes_on old now now' place x n g m e h l q = record {
   front = (n - 1, q ∙ ap (λ (xs : List ℕ). take (n - 1) xs) g.front.1 ∙ take-take (n - 1) g.front.0 old (omega (arith, m, ap length g.front.1, length-take g.front.0 old)));
