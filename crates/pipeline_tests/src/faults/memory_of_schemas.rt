@@ -1,10 +1,10 @@
 // Calls that make the schema of a grammar, with their requests for memory refused in turn by what tests/out-of-memory loads before
 // the tests' program. A call that is refused answers that memory ran out, in its own type, and a store keeps its patterns.
 // Without a refusal, as in the gate, it gives its own answer. Each test tells whether a call was refused.
-use crate::comparing::{holds, same_count};
-use crate::given_texts::written_set;
-use crate::memory_of_merges::{is_refused_answer, print_answer};
-use crate::merges::{self, shown};
+use crate::faults::memory_of_merges::{is_refused_answer, print_answer};
+use crate::shared::comparing::{holds, same_count};
+use crate::shared::given_texts::written_set;
+use crate::shared::merges::{self, shown};
 use core_tests::samples::{BEGIN, END, TWICE_INCLUDED, is_reference, mark};
 use rn_assemble::{Grammar, Refusal};
 use rn_pattern::{Interned, Patterns, Plain};

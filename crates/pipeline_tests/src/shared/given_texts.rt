@@ -1,5 +1,5 @@
 // Texts, contributions and sets that tests are given. Where memory is lacking the test ends.
-use crate::comparing::expect_text;
+use crate::shared::comparing::expect_text;
 use core_tests::samples;
 use rn_modset::{Contribution, ModuleSet};
 use std::process::Abort;

@@ -1,6 +1,6 @@
 // Sets of several contributions that print a schema. Each printed schema, merged alone, is printed again.
-use crate::merges::{EachStore, Merge, MergeAgain};
-use crate::tables::each_schema;
+use crate::shared::merges::{EachStore, Merge, MergeAgain};
+use crate::shared::tables::each_schema;
 
 const ROWS: &str = r#"@a
 start = doc doc |= element b { text }

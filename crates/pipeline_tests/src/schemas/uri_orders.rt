@@ -1,9 +1,9 @@
 // The order of long URIs while short texts replace them: tables of URIs in their order, and sets that are drawn.
-use crate::comparing::{expect_text, holds};
-use crate::drawing::Draw;
-use crate::given_texts::{owned, push, written_set};
-use crate::long_uris::{lengthened, prints};
-use crate::merges::{prints_again, prints_in_each_store};
+use crate::schemas::long_uris::{lengthened, prints};
+use crate::shared::comparing::{expect_text, holds};
+use crate::shared::drawing::Draw;
+use crate::shared::given_texts::{owned, push, written_set};
+use crate::shared::merges::{prints_again, prints_in_each_store};
 use rn_assemble::assemble_short;
 use rn_modset::ModuleSet;
 use rn_simplify::{normalise, print};

@@ -1,8 +1,8 @@
 // Runs over bundles, with sources and sinks that fail at a known byte.
 ghost use Rattle.std.specs.Prelude.{◌≡◌, false};
 
-use crate::comparing::{holds, same_bytes};
-use crate::given_texts::written_set;
+use crate::shared::comparing::{holds, same_bytes};
+use crate::shared::given_texts::written_set;
 use rn_assemble::Refusal;
 use rn_merge::{
     Failed, ReadFault, RunFault, Sink, Source, Status, read_input, run_print, write_output,

@@ -1,6 +1,6 @@
 // Single modules that print a schema. Each printed schema, merged alone, is printed again.
-use crate::merges::{EachStore, Merge, MergeAgain};
-use crate::tables::each_schema;
+use crate::shared::merges::{EachStore, Merge, MergeAgain};
+use crate::shared::tables::each_schema;
 
 /// Patterns in their canonical form.
 const PATTERNS: &str = r#"start = a | b a = notAllowed b = element b { a }

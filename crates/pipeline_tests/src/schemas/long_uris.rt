@@ -1,9 +1,9 @@
 // Sets whose modules declare long URIs, of which a merge makes short texts for a while. A set prints its schema with and without that, through either store,
 // and what it prints is printed again.
-use crate::comparing::{expect_text, same, same_count, same_for};
-use crate::given_texts::{owned, repeated, written_set};
-use crate::merges::{EachStore, Merge, MergeAgain, answer, merged};
-use crate::tables::{Subject, each_schema, each_set};
+use crate::shared::comparing::{expect_text, same, same_count, same_for};
+use crate::shared::given_texts::{owned, repeated, written_set};
+use crate::shared::merges::{EachStore, Merge, MergeAgain, answer, merged};
+use crate::shared::tables::{Subject, each_schema, each_set};
 use rn_assemble::assemble;
 use rn_merge::refusal_line;
 use rn_modset::ModuleSet;

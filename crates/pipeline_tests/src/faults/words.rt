@@ -1,7 +1,7 @@
 // What the words of the program ask for, and words that ask for nothing.
-use crate::comparing::{expect_text, holds};
-use crate::given_texts::owned;
-use crate::tables::{Subject, each_line};
+use crate::shared::comparing::{expect_text, holds};
+use crate::shared::given_texts::owned;
+use crate::shared::tables::{Subject, each_line};
 use rn_merge::{Job, ProgramFault, plan};
 use std::process::Abort;
 

@@ -1,7 +1,7 @@
 // What a merge answers for sets, and what its layers do. A helper that lacks memory, or is given what it can't take, ends its test.
-use crate::comparing::{expect_text, same_for};
-use crate::given_texts::{owned, written_set};
-use crate::tables::Subject;
+use crate::shared::comparing::{expect_text, same_for};
+use crate::shared::given_texts::{owned, written_set};
+use crate::shared::tables::Subject;
 use rn_assemble::{Grammar, Refusal, assemble};
 use rn_merge::{ProgramFault, fault_line, merge, refusal_line};
 use rn_modset::ModuleSet;

@@ -2,11 +2,11 @@
 // a definition that is worth notAllowed or empty written out as that.
 ghost use Rattle.std.specs.Prelude.{◌<◌, ◌≤◌};
 
-use crate::comparing::{expect_text, same_for};
-use crate::drawing::Draw;
-use crate::given_texts::{owned, push, written_set};
-use crate::merges::{EachStore, Merge, MergeAgain, merged, prints_in_each_store};
-use crate::tables::each_schema;
+use crate::shared::comparing::{expect_text, same_for};
+use crate::shared::drawing::Draw;
+use crate::shared::given_texts::{owned, push, written_set};
+use crate::shared::merges::{EachStore, Merge, MergeAgain, merged, prints_in_each_store};
+use crate::shared::tables::each_schema;
 use std::process::Abort;
 
 /// Lists of which some members are lists of the same kind, or come to that, or to nothing.

@@ -1,9 +1,9 @@
 // Modules that are included several times, drawn: a set merges to the same as where each include has a module of its own, with the same text. There no two
 // components have the same body.
-use crate::comparing::{expect_text, same_for};
-use crate::drawing::Draw;
-use crate::given_texts::{owned, push, written_set};
-use crate::merges::{answer, prints_in_each_store};
+use crate::shared::comparing::{expect_text, same_for};
+use crate::shared::drawing::Draw;
+use crate::shared::given_texts::{owned, push, written_set};
+use crate::shared::merges::{answer, prints_in_each_store};
 use std::process::Abort;
 
 /// What a module may define: `n` is worth notAllowed, and `m` empty.

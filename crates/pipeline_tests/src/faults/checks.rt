@@ -1,8 +1,8 @@
 // Module texts, and the one fault of each.
-use crate::comparing::{expect_text, holds, same, same_for};
-use crate::given_texts::{owned, push, repeated};
-use crate::merges::line_of;
-use crate::tables::{Subject, each_line};
+use crate::shared::comparing::{expect_text, holds, same, same_for};
+use crate::shared::given_texts::{owned, push, repeated};
+use crate::shared::merges::line_of;
+use crate::shared::tables::{Subject, each_line};
 use rn_merge::{Place, ProgramFault, check, status};
 use std::alloc::Global;
 use std::process::Abort;

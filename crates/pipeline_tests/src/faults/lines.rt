@@ -1,6 +1,6 @@
 // The lines of faults, refusals and contributions, and the status with which the program then ends.
-use crate::comparing::{expect_text, holds, same};
-use crate::given_texts::{contribution, owned};
+use crate::shared::comparing::{expect_text, holds, same};
+use crate::shared::given_texts::{contribution, owned};
 use core_tests::samples::DIGEST;
 use rn_assemble::{Key, Refusal};
 use rn_merge::{Place, ProgramFault, fault_line, list_line, refusal_line, status};

@@ -1,8 +1,8 @@
 // Orders in which definitions can be settled, of grammars that are drawn: each has exactly the definitions that the start reaches, each once, and behind
 // those that it refers to outside elements. Both are looked up here in the plainest way.
-use crate::comparing::expect_text;
-use crate::drawing::Draw;
-use crate::given_texts::{owned, push, written_set};
+use crate::shared::comparing::expect_text;
+use crate::shared::drawing::Draw;
+use crate::shared::given_texts::{owned, push, written_set};
 use rn_assemble::{Grammar, assemble};
 use rn_pattern::Pattern;
 use std::process::Abort;

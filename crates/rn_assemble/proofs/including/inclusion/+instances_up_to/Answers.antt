@@ -3,7 +3,7 @@ use Rattle.std.specs.Prelude.{Contains}
 use Rattle.std.proofs.lemmas.List.Elements.{Contains-get_or}
 use Rattle.rn_graph.specs.Graph.{rows_of}
 use Rattle.rn_assemble.proofs.Expansion.CountedInstances.{CountsTo, counts_more, counts_all}
-use Rattle.rn_assemble.proofs.including.instances.+instances_up_to.Goals as goal
+use Rattle.rn_assemble.proofs.including.inclusion.+instances_up_to.Goals as goal
 
 pub instances_up_to-count-requires : goal.instances_up_to-count-requires
 instances_up_to-count-requires t c =

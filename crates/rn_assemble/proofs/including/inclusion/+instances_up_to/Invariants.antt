@@ -1,6 +1,6 @@
 use Rattle.rn_graph.specs.Graph.{rows_of}
 use Rattle.rn_assemble.proofs.Expansion.CountedInstances.{CountsTo}
-use Rattle.rn_assemble.proofs.including.instances.+instances_up_to.Given as goal
+use Rattle.rn_assemble.proofs.including.inclusion.+instances_up_to.Given as goal
 
 abbrev pub decreases-instances_up_to : goal.decreases-instances_up_to
 decreases-instances_up_to l = l.most

@@ -1,10 +1,10 @@
 // Merges, checks, runs and lines, with their requests for memory refused in turn by what tests/out-of-memory loads
 // before the tests' program. A call that is refused answers that memory ran out, in its own type, and leaves what it was lent.
 // Without a refusal, as in the gate, it gives its own answer. Each test tells whether a call was refused.
-use crate::comparing::{expect_text, holds, same, same_bytes};
-use crate::given_texts::{contribution, owned, repeated, written_set};
-use crate::merges::{line_of, shown};
-use crate::streams::{A, B, PRINTED, bundles, sink_of};
+use crate::faults::streams::{A, B, PRINTED, bundles, sink_of};
+use crate::shared::comparing::{expect_text, holds, same, same_bytes};
+use crate::shared::given_texts::{contribution, owned, repeated, written_set};
+use crate::shared::merges::{line_of, shown};
 use core_tests::samples::{BEGIN, DIGEST, END, answer_word, mark};
 use rn_assemble::Refusal;
 use rn_merge::{

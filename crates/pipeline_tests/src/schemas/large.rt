@@ -1,7 +1,7 @@
 // Sets and texts at their limits, and long lists and chains.
-use crate::comparing::{expect_text, holds, same, same_count};
-use crate::given_texts::{owned, push, repeated, written_set};
-use crate::merges::{
+use crate::shared::comparing::{expect_text, holds, same, same_count};
+use crate::shared::given_texts::{owned, push, repeated, written_set};
+use crate::shared::merges::{
     FIRST_LINE, answer, answer_of_text, merged, prints_again, prints_in_each_store,
 };
 use core_tests::samples::module;

@@ -1,6 +1,6 @@
 // Sets that print nothing, and the first refusal of each.
-use crate::merges::Merge;
-use crate::tables::each_set;
+use crate::shared::merges::Merge;
+use crate::shared::tables::each_set;
 
 const ROWS: &str = r#"@a
 x = text
