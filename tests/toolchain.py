@@ -33,7 +33,7 @@ def libraries(top=TOP):
 def copy_crates(top, room):
     """Copies the crates of a checkout into a folder, without what proves them."""
     shutil.copy(f"{top}/crates.txt", room)
-    shutil.copytree(f"{top}/crates", f"{room}/crates", ignore=shutil.ignore_patterns("out", "proofs", "must-fail"))
+    shutil.copytree(f"{top}/crates", f"{room}/crates", ignore=shutil.ignore_patterns("out", "proofs"))
 
 
 def start(words, **how):

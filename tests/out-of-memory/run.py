@@ -189,7 +189,7 @@ def told_of_test(program, test, room, shim):
 def tests_of(program):
     """The names of the tests of calls whose requests for memory are refused."""
     listed = subprocess.run([program, "--list"], check=True, capture_output=True, text=True).stdout
-    return [line.rsplit(": ", 1)[0] for line in listed.splitlines() if line.startswith("memory_of_")]
+    return [line.rsplit(": ", 1)[0] for line in listed.splitlines() if "::memory_of_" in f"::{line}"]
 
 
 def bundle(program, room, name, modules):

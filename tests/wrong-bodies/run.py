@@ -1,5 +1,5 @@
 #!/usr/bin/env python3
-"""Tries wrong bodies, which the prover must refuse, function by function. (Those in crates/*/must-fail are tried by `rt ci` itself.)
+"""Tries wrong bodies, which the prover must refuse, function by function.
 
 tests/wrong-bodies/run.py [CRATE..]: tries those of these crates, or of all. A crate is checked with wrong bodies of many functions at once, since the
 prover tells of each function by itself whether it is proved. Each must be refused at a goal of its own, and nothing else may be refused. All other

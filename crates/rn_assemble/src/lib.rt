@@ -19,7 +19,7 @@ pub use diagnosing::diagnosis::{Diagnosis, diagnose};
 pub use diagnosing::findings::Finding;
 pub use diagnosing::places::{ComponentPlace, IncludePlace, LeftDefinition, ReferencePlace};
 pub use grammar::{Definitions, Grammar};
-pub use including::instances::INSTANCE_LIMIT;
+pub use including::inclusion::INSTANCE_LIMIT;
 pub use reading::keys::KeyId;
 pub use reading::named_modules::ModuleId;
 pub use refusal::{Key, Refusal};

@@ -3,7 +3,7 @@ ghost use Rattle.std.specs.Prelude.{◌≡◌, Some, string_bytes};
 ghost use Rattle.rn_assemble.specs.Refusal.{faulty};
 ghost use Rattle.rn_assemble.specs.Refused.{refusal_view};
 
-use crate::including::instances::INSTANCE_LIMIT;
+use crate::including::inclusion::INSTANCE_LIMIT;
 use rn_modset::SetFault;
 use rn_syntax::FaultKind;
 use std::alloc::{AllocError, AllocFailed};

@@ -1,20 +1,25 @@
-// Laws of merging, over what `merge` and `run_print` promise.
-ghost use Rattle.std.specs.Prelude.{◌≡◌, ◌≢◌, ◌↔◌, ℕ, Bool, Contains, IsSomeAnd, List, Option};
+// Laws of merging, over what `merge`, `run_print` and `check` promise.
+ghost use Rattle.std.specs.Prelude.{◌≡◌, ◌≢◌, ◌↔◌, ℕ, Bool, Contains, IfSome, IsSomeAnd, List, Option, Some};
 ghost use Rattle.rn_modset.specs.Contributions.{Member};
 ghost use Rattle.rn_modset.specs.Laws.{Call};
 ghost use Rattle.rn_pattern.specs.Matching.{Grammar};
 ghost use Rattle.rn_pattern.specs.Reached.{IsCanonicalOf};
-ghost use Rattle.rn_assemble.specs.Refusal.{IsAssembled, IsFirst, Refusal, Stands};
+ghost use Rattle.rn_syntax.specs.declared.fault.FaultKind.{FaultKind};
+ghost use Rattle.rn_assemble.specs.Refusal.{HasTextFault, IsAssembled, IsFirst, IsFirstFault, Refusal, Stands};
 ghost use Rattle.rn_assemble.specs.declared.refusal.Refusal as code;
 ghost use Rattle.rn_assemble.specs.declared.refusal.Refusal.TheVariants as refusing;
 ghost use Rattle.rn_simplify.specs.Verdict.{IsVerdict, Verdict};
+ghost use Rattle.rn_merge.specs.Kinds.{kind_of};
 ghost use Rattle.rn_merge.specs.Laws.{AreSame, BringAlike, BringSame, Brings, IsLeftBy, Tells};
 ghost use Rattle.rn_merge.specs.Runs.{HasNoUnion, IsRun, IsUnion};
 ghost use Rattle.rn_merge.specs.Schemas.{RefusesFirst};
+ghost use Rattle.rn_merge.specs.TextFaults.{HasPlace, IsGood};
 ghost use Rattle.rn_merge.specs.Verdicts.{Answer, answer_view, IsAnswer, verdict_view};
 ghost use Rattle.rn_merge.specs.declared.run.RunFault.{RunFault};
 ghost use Rattle.rn_merge.specs.declared.run.RunFault.TheVariants as failing;
 ghost use Rattle.rn_merge.specs.declared.run.Status.{Status};
+
+use crate::text_faults::Place;
 
 /// Every set has a verdict: that it has none is impossible. So it is with each step to it. Where a
 /// refusal is true of the set, there is a first one; where none is, the set has a grammar. Each
@@ -84,4 +89,30 @@ pub fn runs_tell_one_verdict()
         → BringSame bundles others → fault ≢ failing.Full }
     ensures any_order { (bundles others : List (List ℕ))
         → AreSame bundles others → BringSame bundles others }
+{}
+
+/// A module text has at most one fault with one place, out of memory aside, and none where it is
+/// good. That it is not good and has no fault either is impossible.
+pub fn texts_are_good_or_have_one_place()
+    ensures never_neither { (text : List ℕ)
+        → ¬ ((¬ IsGood text) × ((place : Place) → HasPlace text place → place ≡ Place.Memory)) }
+    ensures not_both { (text : List ℕ) (place : Place)
+        → IsGood text → HasPlace text place → place ≡ Place.Memory }
+    ensures one_place { (text : List ℕ) (place other : Place)
+        → HasPlace text place → HasPlace text other
+        → place ≢ Place.Memory → other ≢ Place.Memory → place ≡ other }
+{}
+
+/// What `check` accepts or names is what `merge` accepts or names. A good text has none of the
+/// faults that refuse a module, and the place of any other text has the kind of its first one. That
+/// a text has no such fault and is not good, or that no place has the kind of its first fault, is
+/// impossible.
+pub fn checked_texts_are_merged()
+    ensures good { (text : List ℕ) → IsGood text → (fault : FaultKind) → ¬ HasTextFault text fault }
+    ensures faultless { (text : List ℕ) → ((fault : FaultKind) → ¬ HasTextFault text fault)
+        → ¬ (¬ IsGood text) }
+    ensures first { (text : List ℕ) (place : Place)
+        → HasPlace text place → IfSome (kind_of place) (IsFirstFault text) }
+    ensures placed { (text : List ℕ) (fault : FaultKind) → IsFirstFault text fault
+        → ¬ ((place : Place) → HasPlace text place → kind_of place ≢ Some fault) }
 {}

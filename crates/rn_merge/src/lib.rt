@@ -8,7 +8,6 @@ pub mod lines;
 pub mod run;
 pub mod streams;
 pub mod text_faults;
-pub mod text_laws;
 pub mod verdict;
 pub mod words;
 

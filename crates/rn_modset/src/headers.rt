@@ -6,9 +6,8 @@ ghost use Rattle.rn_modset.specs.Bundles.{header_line};
 ghost use Rattle.rn_modset.specs.BundleGrammar.{IsDigest, is_lower_hex};
 ghost use Rattle.rn_modset.specs.inside.Headers.{header_view, MayStand, IsNoHeader, AreNoTextFields, IsNoWithdrawalField};
 
-use crate::contribution::MAX_TEXT;
+use crate::contribution::{MAX_TEXT, is_module_name};
 use crate::fields::{parse_decimal, split_at_byte};
-use crate::module_names::is_module_name;
 
 /// What a header line says.
 #[derive(Clone, Copy)]

@@ -9,12 +9,11 @@
 //! [`laws`] has what is proved of canonical patterns. [`name_classes`] has the restrictions on name classes (4.16).
 //! [`ReferenceRows`] are the references of definitions, everywhere and outside elements, as edges of graphs.
 //!
-//! [`boxes`] puts a value in a box of its own, or where it can be shared.
+//! [`new_box`] puts a value in a box of its own, [`new_shared`] where it can be shared.
 //!
 //! Where a call answers `AllocError`, memory ran out; it refuses nothing else.
 #![tactic(auto)]
 
-pub mod boxes;
 mod canonical;
 mod connector;
 mod copies;
@@ -37,6 +36,6 @@ pub use tables::hashing::Seed;
 pub use tables::interned::Interned;
 pub use tables::pattern_store::Patterns;
 pub use tables::plain::Plain;
-pub use tree::{Data, NameClass, Named, Pattern, Value};
+pub use tree::{Data, NameClass, Named, Pattern, Value, new_box, new_shared};
 
 pub mod laws;

@@ -1,5 +1,8 @@
-// Patterns and name classes whose names are resolved.
+// Patterns and name classes whose names are resolved, and the boxes that their parts are in.
+ghost use Rattle.std.specs.Prelude.{◌≡◌, IfOk};
+
 use crate::small_string::SmallString;
+use std::alloc::{AllocError, Global};
 use std::rc::{Rc, RcStr};
 
 /// A name class. Namespaces and local names are UTF-8. A namespace is shared by all names that are made of one binding,
@@ -79,4 +82,19 @@ pub enum Pattern {
     Interleave(Vec<Rc<Pattern>>),
     /// One of the members (6.2.1).
     Choice(Vec<Rc<Pattern>>),
+}
+
+/// The value in its box. Like [`new_shared`] it is small and of any type, since a call that may give a pattern back is
+/// costly to prove.
+pub fn new_box<T: Drop>(alloc: Global, value: T) -> Result<Box<T>, AllocError>
+    ensures { IfOk result (λ b. b.value ≡ value) }
+{
+    Ok(Box::new(alloc, value)?)
+}
+
+/// The value, to be shared.
+pub fn new_shared<T: Drop>(alloc: Global, value: T) -> Result<Rc<T>, AllocError>
+    ensures { IfOk result (λ r. r.value ≡ value) }
+{
+    Ok(Rc::new(alloc, value)?)
 }

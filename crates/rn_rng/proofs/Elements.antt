@@ -3,9 +3,9 @@ use Rattle.std.proofs.Common.{◌≡◌, ◌≢◌, ℕ, List, [], ◌∷◌, �
 use Rattle.std.specs.Prelude.{codes, bytes_eq}
 use Rattle.std.proofs.Math.Dec.{eqb-suc-zero}
 use Rattle.rn_pattern.specs.Document.{Items, no_items, more_items}
-use Rattle.rn_syntax.specs.declared.token.Operator.{Operator}
-use Rattle.rn_syntax.specs.declared.token.Postfix.{Postfix}
-use Rattle.rn_syntax.specs.declared.token.Postfix.TheVariants as r
+use Rattle.rn_syntax.specs.declared.tree.Operator.{Operator}
+use Rattle.rn_syntax.specs.declared.tree.Postfix.{Postfix}
+use Rattle.rn_syntax.specs.declared.tree.Postfix.TheVariants as r
 use Rattle.rn_syntax.specs.declared.tree.Nc.{Nc}
 use Rattle.rn_syntax.specs.declared.tree.Pat.{Pat}
 use Rattle.rn_syntax.specs.declared.tree.Param.{Param}

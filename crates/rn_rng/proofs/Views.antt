@@ -2,7 +2,7 @@
 use Rattle.std.proofs.Common.{◌≡◌, rules, Box, Global}
 use Rattle.std.specs.Prelude.{Vec}
 use Rattle.std.specs.Cow.{cow_str_bytes}
-use Rattle.rn_syntax.specs.declared.token.Operator.{Operator}
+use Rattle.rn_syntax.specs.declared.tree.Operator.{Operator}
 use Rattle.rn_syntax.specs.declared.tree.AnyName.{AnyName}
 use Rattle.rn_syntax.specs.declared.tree.Data.{Data}
 use Rattle.rn_syntax.specs.declared.tree.Value as value

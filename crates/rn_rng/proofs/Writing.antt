@@ -4,8 +4,8 @@ use Rattle.std.specs.Prelude.{codes, cond, flat_map, string_bytes, bytes_eq, ◌
 use Rattle.std.proofs.lemmas.List.{take_more, take_all}
 use Rattle.rn_text.specs.Texts.{Text}
 use Rattle.rn_pattern.specs.Document.{Attribute, Item, node, string, Items, no_items, more_items}
-use Rattle.rn_syntax.specs.declared.token.Operator.{Operator}
-use Rattle.rn_syntax.specs.declared.token.Operator.TheVariants as o
+use Rattle.rn_syntax.specs.declared.tree.Operator.{Operator}
+use Rattle.rn_syntax.specs.declared.tree.Operator.TheVariants as o
 use Rattle.rn_rng.specs.declared.lines.Writer.{Writer}
 use Rattle.rn_rng.specs.declared.lines.XmlStop.{XmlStop}
 use Rattle.rn_rng.specs.declared.lines.XmlStop.TheVariants.{TooLarge}

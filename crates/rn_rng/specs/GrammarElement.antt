@@ -5,8 +5,8 @@ use Rattle.rn_text.specs.Texts.{Text}
 use Rattle.rn_pattern.specs.Document.{Attribute, Item, node, string, Items, no_items, more_items}
 use Rattle.rn_pattern.specs.Tree.{Tree, Trees, no_trees, more_trees}
 use Rattle.rn_pattern.specs.Matching.{Grammar}
-use Rattle.rn_syntax.specs.declared.token.Method.{Method}
-use Rattle.rn_syntax.specs.declared.token.Method.TheVariants as m
+use Rattle.rn_syntax.specs.declared.tree.Method.{Method}
+use Rattle.rn_syntax.specs.declared.tree.Method.TheVariants as m
 use Rattle.rn_assemble.specs.Components.{Key, start_key, name_key, Component}
 use Rattle.rn_assemble.specs.Combine.{joined_grammar}
 use Rattle.rn_rng.specs.SchemaElements as k

@@ -3,12 +3,12 @@
 use Rattle.std.specs.Prelude.{Bool, true, false, not, ◌&&◌, if◌then◌else◌, List, [], ◌∷◌, ◌++◌, Option, Some, None, bytes_eq, codes}
 use Rattle.rn_text.specs.Texts.{Text}
 use Rattle.rn_pattern.specs.Document.{Attribute, Item, node, string, Items, no_items, more_items}
-use Rattle.rn_syntax.specs.declared.token.Method.{Method}
-use Rattle.rn_syntax.specs.declared.token.Method.TheVariants as w
-use Rattle.rn_syntax.specs.declared.token.Operator.{Operator}
-use Rattle.rn_syntax.specs.declared.token.Operator.TheVariants as o
-use Rattle.rn_syntax.specs.declared.token.Postfix.{Postfix}
-use Rattle.rn_syntax.specs.declared.token.Postfix.TheVariants as r
+use Rattle.rn_syntax.specs.declared.tree.Method.{Method}
+use Rattle.rn_syntax.specs.declared.tree.Method.TheVariants as w
+use Rattle.rn_syntax.specs.declared.tree.Operator.{Operator}
+use Rattle.rn_syntax.specs.declared.tree.Operator.TheVariants as o
+use Rattle.rn_syntax.specs.declared.tree.Postfix.{Postfix}
+use Rattle.rn_syntax.specs.declared.tree.Postfix.TheVariants as r
 use Rattle.rn_syntax.specs.Tree as t
 use Rattle.rn_syntax.specs.Tree.{Name, Datatype, Params, AnyName, NameClass, NameClasses, Pattern, Patterns, Declaration, Module}
 use Rattle.rn_syntax.specs.Places.{xml_uri, xsd_uri}

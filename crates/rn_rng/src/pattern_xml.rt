@@ -4,7 +4,7 @@ ghost use Rattle.std.specs.Prelude as prelude;
 ghost use Rattle.rn_pattern.specs.Document as document;
 ghost use Rattle.rn_syntax.specs.Tree as tree;
 ghost use Rattle.rn_syntax.specs.View.{class_view, pattern_view, patterns_view, datatype_view, params_view};
-ghost use Rattle.rn_syntax.specs.declared.token.Operator.TheVariants.{Comma};
+ghost use Rattle.rn_syntax.specs.declared.tree.Operator.TheVariants.{Comma};
 ghost use Rattle.rn_rng.specs.Layout as layout;
 ghost use Rattle.rn_rng.specs.Layout.{item_text, items_text, tag_front};
 ghost use Rattle.rn_rng.specs.Translation as translation;

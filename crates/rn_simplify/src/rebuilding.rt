@@ -8,8 +8,7 @@ ghost use Rattle.rn_pattern.specs.Tree.{Tree, value};
 ghost use Rattle.rn_pattern.specs.View.{excepted_view, name_class_view, named_view, parameters_view, pattern_view, shared_view};
 ghost use Rattle.rn_simplify.specs.inside.NodeKinds.{datum_over, except_trees, has_members, is_leaf, node_content};
 
-use rn_pattern::boxes::{new_box, new_shared};
-use rn_pattern::{Data, NameClass, Named, Node, Pattern, Patterns, Value};
+use rn_pattern::{Data, NameClass, Named, Node, Pattern, Patterns, Value, new_box, new_shared};
 use std::alloc::{AllocError, Global};
 use std::rc::{Rc, RcStr};
 

@@ -6,8 +6,7 @@ ghost use Rattle.rn_pattern.specs.View.{pattern_view, shared_view};
 ghost use Rattle.rn_simplify.specs.inside.Repeats.{AreFirstsAmong, AreFirstsOf, AreSameButRepeats};
 ghost use Rattle.rn_pattern.specs.Canonical.{HaveSameMembers};
 
-use rn_pattern::Pattern;
-use rn_pattern::boxes::new_box;
+use rn_pattern::{Pattern, new_box};
 use std::alloc::{AllocError, Global};
 use std::rc::Rc;
 

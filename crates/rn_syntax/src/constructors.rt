@@ -6,8 +6,7 @@ ghost use Rattle.rn_syntax.specs.Tree as tree;
 ghost use Rattle.rn_syntax.specs.View.{boxed_view, class_view, datatype_view, params_view, pattern_view, patterns_view, type_view};
 
 use crate::fault::Fault;
-use crate::token::{Operator, Postfix};
-use crate::tree::{Data, Datatype, Named, Param, Pat, Value};
+use crate::tree::{Data, Datatype, Named, Operator, Param, Pat, Postfix, Value};
 use std::alloc::{AllocError, Global};
 use std::borrow::CowStr;
 

@@ -11,7 +11,6 @@ mod places;
 mod productions;
 pub mod reader;
 mod rules;
-pub mod token;
 pub mod tree;
 
 pub use bindings::{Bindings, XML_URI, XSD_URI};
@@ -19,8 +18,7 @@ pub use brackets::MAX_OPEN;
 pub use fault::{FaultKind, SyntaxFault};
 pub use included::includes;
 pub use reader::parse;
-pub use token::{Method, Operator, Postfix};
 pub use tree::{
-    AnyName, Data, Datatype, Declaration, Include, Item, Module, Named, Nc, Param, Pat, Prefix,
-    PrefixedName, Uri, Value,
+    AnyName, Data, Datatype, Declaration, Include, Item, Method, Module, Named, Nc, Operator,
+    Param, Pat, Postfix, Prefix, PrefixedName, Uri, Value,
 };

@@ -7,8 +7,7 @@ ghost use Rattle.rn_syntax.specs.inside.Rules as rules;
 ghost use Rattle.rn_syntax.specs.View.{class_view, classes_view, any_view, datatype_view, params_view, pattern_view, patterns_view, prefix_view};
 
 use crate::bindings::Bindings;
-use crate::token::Operator;
-use crate::tree::{AnyName, Datatype, Nc, Param, Pat, Prefix};
+use crate::tree::{AnyName, Datatype, Nc, Operator, Param, Pat, Prefix};
 
 /// A rule on what stands in patterns, or all of them at once.
 #[derive(Clone, Copy)]

@@ -1,8 +1,40 @@
 // The tree of a module as it is written: names keep their prefixes, and what is resolved later keeps its place in
 // bytes. Names are slices of the source; literals are too where they are one segment without escape and carriage
 // return.
-use crate::token::{Method, Operator, Postfix};
 use std::borrow::CowStr;
+
+/// What joins patterns to a chain: `,`, `&`, `|`.
+#[derive(Clone, Copy, Debug, PartialEq, Eq)]
+pub enum Operator {
+    /// `,`, a group.
+    Comma,
+    /// `&`, an interleave.
+    Ampersand,
+    /// `|`, a choice.
+    Bar,
+}
+
+/// What follows a pattern: `?`, `*`, `+`.
+#[derive(Clone, Copy, Debug, PartialEq, Eq)]
+pub enum Postfix {
+    /// `?`, once or not at all.
+    Question,
+    /// `*`, any number of times.
+    Star,
+    /// `+`, once or more.
+    Plus,
+}
+
+/// How a definition is combined with others of its name (RELAX NG Compact Syntax, 2, assignMethod).
+#[derive(Clone, Copy, Debug, PartialEq, Eq)]
+pub enum Method {
+    /// `=`.
+    Plain,
+    /// `|=`, by a choice.
+    Choice,
+    /// `&=`, by an interleave.
+    Interleave,
+}
 
 /// A prefix, and its place: the byte of the source at which its token begins.
 #[derive(Clone, Copy, Debug)]

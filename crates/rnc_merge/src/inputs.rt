@@ -1,12 +1,13 @@
-// What the files of a job are read from, and reading them in order.
+// What the files of a job are read from, the system or another source, and reading them in order.
 ghost use Rattle.std.specs.Prelude.{◌≡◌, ℕ, List, IfOk, IfErr, map, string_bytes};
 ghost use Rattle.std.specs.List.{AllZip};
 ghost use Rattle.rn_merge.specs.Runs.{bundles_view};
 ghost use Rattle.rn_merge.specs.declared.streams.ReadFault.{ReadFault};
 ghost use Rattle.rnc_merge.specs.Inputs.{IsInputFault, input_fault};
 
-use rn_merge::{ProgramFault, ReadFault};
+use rn_merge::{Input, MAX_INPUT, ProgramFault, ReadFault, STANDARD_INPUT, read_input};
 use std::alloc::Global;
+use std::fs::File;
 
 /// What files are read from, by path.
 pub trait Inputs {
@@ -21,6 +22,25 @@ pub trait Inputs {
     fn read(&self, alloc: Global, path: &str) -> Result<Vec<u8>, ReadFault>
         ensures given { IfOk result (λ bytes. gives self.now path.now bytes.items) }
         ensures refused { IfErr result (refuses self.now path.now) };
+}
+
+/// The files of the system; [`STANDARD_INPUT`] is standard input.
+#[derive(Drop)]
+pub struct System<'a> {
+    /// What asks the system.
+    pub rt: &'a HostRuntime,
+}
+
+impl Inputs for System<'_> {
+    fn read(&self, alloc: Global, path: &str) -> Result<Vec<u8>, ReadFault> {
+        if path == STANDARD_INPUT {
+            return read_input(alloc, &mut Input::new(self.rt.stdin()), MAX_INPUT);
+        }
+        match File::open(self.rt, path) {
+            Ok(opened) => read_input(alloc, &mut Input::new(opened), MAX_INPUT),
+            Err(_) => Err(ReadFault::Read),
+        }
+    }
 }
 
 /// The bytes of all files, in order; or the fault of the first that can't be read, with its index,

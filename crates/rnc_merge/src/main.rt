@@ -4,10 +4,9 @@
 
 mod inputs;
 mod jobs;
-mod system;
 
+use crate::inputs::System;
 use crate::jobs::perform;
-use crate::system::System;
 use rn_merge::{Output, ProgramFault, fault_line, plan, status, write_output};
 use std::alloc::{AllocError, Global};
 use std::env;

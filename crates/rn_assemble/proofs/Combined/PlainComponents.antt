@@ -5,7 +5,7 @@ use Rattle.std.specs.List.{AllByRecursion, list_any}
 use Rattle.std.proofs.lemmas.Slice.Eq.{bytes_eq-Decides}
 use Rattle.rn_pattern.specs.Tree.{Tree}
 use Rattle.rn_text.specs.Texts.{Text, text_cmp}
-use Rattle.rn_syntax.specs.declared.token.Method.TheVariants as m
+use Rattle.rn_syntax.specs.declared.tree.Method.TheVariants as m
 use Rattle.rn_assemble.specs.Components.{Component, start_key, name_key, Key}
 use Rattle.rn_assemble.specs.Combine.{of_key, IsPlainTwice, IsMixed, uses, is_plain, is_choice, is_interleave, joined_pattern, method_node, joined_tree, defined_names, joined_grammar, plain_start, plain_definition, components_of, Differ, AreDistinct}
 use Rattle.std.specs.List.Sorted.{IsStrictlySortedBy}

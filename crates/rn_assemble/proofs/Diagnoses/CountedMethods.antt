@@ -4,7 +4,7 @@ use Rattle.std.specs.Prelude.{count_by, sum_by}
 use Rattle.std.specs.List.{AllByRecursion, list_any}
 use Rattle.std.proofs.lemmas.Bool.{and_parts, false≢true}
 use Rattle.std.proofs.lemmas.List.Sums.{sum_by-append, sum_by-cons}
-use Rattle.rn_syntax.specs.declared.token.Method.{Method}
+use Rattle.rn_syntax.specs.declared.tree.Method.{Method}
 use Rattle.rn_text.specs.Texts.{Text}
 use Rattle.rn_assemble.specs.Combine.{IsMixed, is_choice, is_interleave, of_key, uses}
 use Rattle.rn_assemble.specs.Components.{Component, Key, NamedModule, set_components}

@@ -5,10 +5,10 @@ use Rattle.std.specs.List.{list_any}
 use Rattle.rn_text.specs.Texts.{Text}
 use Rattle.rn_pattern.specs.Tree.{NameTree, ns_name, ns_name_but, any_name_but, name, name_choice, more_names, Tree, Trees, value, datum, datum_but, list, attribute, element, empty, text, one_or_more, group, interleave, choice, more_trees}
 use Rattle.rn_pattern.specs.Opened.{pair}
-use Rattle.rn_syntax.specs.declared.token.Operator.{Operator}
-use Rattle.rn_syntax.specs.declared.token.Operator.TheVariants as o
-use Rattle.rn_syntax.specs.declared.token.Postfix.{Postfix}
-use Rattle.rn_syntax.specs.declared.token.Postfix.TheVariants as r
+use Rattle.rn_syntax.specs.declared.tree.Operator.{Operator}
+use Rattle.rn_syntax.specs.declared.tree.Operator.TheVariants as o
+use Rattle.rn_syntax.specs.declared.tree.Postfix.{Postfix}
+use Rattle.rn_syntax.specs.declared.tree.Postfix.TheVariants as r
 use Rattle.rn_syntax.specs.Tree as t
 use Rattle.rn_syntax.specs.Tree.{AnyName, Datatype, Declaration, Item, Items, Name, NameClass, NameClasses, Pattern, Patterns, Uri}
 use Rattle.rn_syntax.specs.Places.{declared_default, declared_namespace, uri_of, xml_uri}

@@ -8,8 +8,8 @@ use Rattle.rn_syntax.specs.Tree.{Declaration}
 use Rattle.rn_syntax.specs.View.{class_view, classes_view, named_step, pattern_step, pattern_view, patterns_view}
 use Rattle.rn_syntax.specs.declared.tree.Nc.{Nc}
 use Rattle.rn_syntax.specs.Tree as t
-use Rattle.rn_syntax.specs.declared.token.Operator.{Operator}
-use Rattle.rn_syntax.specs.declared.token.Postfix.{Postfix}
+use Rattle.rn_syntax.specs.declared.tree.Operator.{Operator}
+use Rattle.rn_syntax.specs.declared.tree.Postfix.{Postfix}
 use Rattle.rn_syntax.specs.declared.tree.Pat.{Pat, fold-roll-Pat}
 use Rattle.rn_syntax.specs.declared.tree.Pat.TheOpen.{Pat-F}
 use Rattle.rn_syntax.specs.declared.tree.Pat.TheVariants.{rolls-Repeated, rolls-Chain}

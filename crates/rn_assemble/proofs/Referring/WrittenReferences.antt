@@ -7,8 +7,8 @@ use Rattle.rn_text.specs.Texts.{Text}
 use Rattle.rn_pattern.specs.Reached.{RefersTo, SomeRefersTo}
 use Rattle.rn_pattern.specs.References.{RefersOutside, SomeRefersOutside}
 use Rattle.rn_pattern.proofs.Ordered.InOrder.{contains_front}
-use Rattle.rn_syntax.specs.declared.token.Operator.TheVariants as o
-use Rattle.rn_syntax.specs.declared.token.Postfix.TheVariants as postfix
+use Rattle.rn_syntax.specs.declared.tree.Operator.TheVariants as o
+use Rattle.rn_syntax.specs.declared.tree.Postfix.TheVariants as postfix
 use Rattle.rn_syntax.specs.Tree as t
 use Rattle.rn_syntax.specs.Tree.{Declaration, Pattern, Patterns}
 use Rattle.rn_assemble.specs.Resolve.{resolved_pattern, resolved_patterns}

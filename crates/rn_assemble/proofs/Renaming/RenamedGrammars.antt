@@ -5,7 +5,7 @@ use Rattle.std.proofs.lemmas.Simd.{map-map}
 use Rattle.std.proofs.lemmas.List.Folds.{fold-map}
 use Rattle.rn_text.specs.Texts.{Text}
 use Rattle.rn_pattern.specs.Tree.{Tree, Trees, interleave, choice, no_trees, more_trees, trees_of}
-use Rattle.rn_syntax.specs.declared.token.Method.{Method}
+use Rattle.rn_syntax.specs.declared.tree.Method.{Method}
 use Rattle.rn_assemble.specs.Components.{Key, start_key, name_key, same_key, Component}
 use Rattle.rn_assemble.specs.Combine.{of_key, bodies, is_plain, is_choice, is_interleave, uses, IsPlainTwice, IsMixed, method_node, joined_tree, joined_pattern, first_of, defined_names, joined_grammar}
 use Rattle.rn_assemble.specs.Renamed.{renamed_tree, renamed_trees, renamed_definition, renamed_grammar, HasKnownUris, HaveKnownUris, IsOfKnownUris}

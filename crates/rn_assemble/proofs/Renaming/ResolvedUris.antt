@@ -4,8 +4,8 @@ use Rattle.std.specs.Prelude.{bytes_eq, unwrap_or, ⊤}
 use Rattle.std.specs.List.{AllByRecursion}
 use Rattle.std.proofs.lemmas.Bool.{cond_both}
 use Rattle.rn_text.specs.Texts.{Text}
-use Rattle.rn_syntax.specs.declared.token.Operator.TheVariants as o
-use Rattle.rn_syntax.specs.declared.token.Postfix.TheVariants as q
+use Rattle.rn_syntax.specs.declared.tree.Operator.TheVariants as o
+use Rattle.rn_syntax.specs.declared.tree.Postfix.TheVariants as q
 use Rattle.rn_syntax.specs.Tree as t
 use Rattle.rn_syntax.specs.Tree.{Datatype, NameClass, NameClasses, Pattern, Patterns, Uri, Declaration}
 use Rattle.rn_syntax.specs.Places.{xml_uri, xsd_uri, declared_namespace, declared_library, library_of}

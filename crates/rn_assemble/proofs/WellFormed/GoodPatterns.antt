@@ -9,8 +9,8 @@ use Rattle.rn_pattern.specs.Tree as w
 use Rattle.rn_pattern.specs.Tree.{Tree, Trees, no_trees, more_trees, NameTree}
 use Rattle.rn_text.specs.Texts.{Text}
 use Rattle.rn_pattern.specs.Excepts.{IsExcept, AreExcepts, HasExcepts, HaveExcepts}
-use Rattle.rn_syntax.specs.declared.token.Operator.TheVariants as o
-use Rattle.rn_syntax.specs.declared.token.Postfix.TheVariants as r
+use Rattle.rn_syntax.specs.declared.tree.Operator.TheVariants as o
+use Rattle.rn_syntax.specs.declared.tree.Postfix.TheVariants as r
 use Rattle.rn_syntax.specs.Tree as t
 use Rattle.rn_syntax.specs.Tree.{Name, Datatype, Params, AnyName, NameClass, NameClasses, Pattern, Patterns, Uri, Declaration}
 use Rattle.rn_syntax.specs.Places.{xml_uri, xsd_uri, declared_namespace, declared_library, library_of, place_if, has_any, is_library, is_context_type, unbound_type, wrong_builtin, context_value, pattern_places, patterns_places}

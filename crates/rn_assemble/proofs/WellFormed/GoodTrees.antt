@@ -6,7 +6,7 @@ use Rattle.rn_text.specs.Characters.{is_ncname, is_name_start, is_name_char}
 use Rattle.rn_text.specs.Texts.{Text}
 use Rattle.rn_text.specs.declared.keywords.Keyword.{Keyword}
 use Rattle.rn_text.specs.declared.keywords.Keyword.TheVariants as k
-use Rattle.rn_syntax.specs.declared.token.Operator.{Operator}
+use Rattle.rn_syntax.specs.declared.tree.Operator.{Operator}
 use Rattle.rn_text.specs.Keywords.{spelling}
 use Rattle.rn_syntax.specs.Terminal.{Terminal, Placed}
 use Rattle.rn_syntax.specs.Tree as t

@@ -2,7 +2,7 @@
 use Rattle.std.specs.Prelude.{ℕ, ◌≡◌, ◌+◌, List, [], ◌∷◌, ◌++◌, length, bytes_eq, Option, ⊤}
 use Rattle.std.specs.List.{position_from}
 use Rattle.rn_text.specs.Texts.{Text}
-use Rattle.rn_syntax.specs.declared.token.Method.{Method}
+use Rattle.rn_syntax.specs.declared.tree.Method.{Method}
 use Rattle.rn_syntax.specs.Tree as t
 use Rattle.rn_syntax.specs.Tree.{Item, Items, Pattern, includes}
 use Rattle.rn_assemble.specs.Components.{Key, start_key, name_key, NamedModule}

@@ -1,7 +1,7 @@
 -- What stands against a set, as it is found: the components of a key in the segments that have them.
 use Rattle.std.specs.Prelude.{ℕ, ◌<◌, ◌≤◌, ◌≡◌, ◌+◌, ◌⊎◌, Bool, true, List, [], ◌∷◌, ◌++◌, length, count_by, slice_get, slice_range, sum_by, Option, Some, None, Contains}
 use Rattle.std.specs.List.{AllByRecursion}
-use Rattle.rn_syntax.specs.declared.token.Method.{Method}
+use Rattle.rn_syntax.specs.declared.tree.Method.{Method}
 use Rattle.rn_text.specs.Texts.{Text}
 use Rattle.rn_pattern.specs.References.{IsUndefined}
 use Rattle.rn_assemble.specs.Combine.{joined_grammar}

@@ -1,8 +1,8 @@
 -- Methods of combining, and keys of which something holds, by their numbers.
 use Rattle.std.specs.Prelude.{ℕ, suc, ◌≡◌, ◌<◌, Bool, true, false, List, length, Option, Some, None}
 use Rattle.rn_text.specs.Texts.{Text}
-use Rattle.rn_syntax.specs.declared.token.Method.{Method}
-use Rattle.rn_syntax.specs.declared.token.Method.TheVariants as m
+use Rattle.rn_syntax.specs.declared.tree.Method.{Method}
+use Rattle.rn_syntax.specs.declared.tree.Method.TheVariants as m
 use Rattle.rn_assemble.specs.Components.{Component, Key, has_key, start_key}
 use Rattle.rn_assemble.specs.Combine.{is_plain, is_choice, is_interleave, IsPlainTwice, IsMixed}
 use Rattle.rn_assemble.specs.declared.by_key.checks.MethodFault.{MethodFault}

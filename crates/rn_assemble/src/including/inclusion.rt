@@ -1,5 +1,5 @@
-// Which modules include which, and what stands against it.
-ghost use Rattle.std.specs.Prelude.{◌≡◌, ◌<◌, ◌==◌, ◌||◌, ◌↔◌, ℕ, length, vec_len, option_map, sum_by, IfOk, IfSome, IsTrue, MatchResult};
+// Which modules include which, how many instances they have, and what stands against it.
+ghost use Rattle.std.specs.Prelude.{◌≡◌, ◌<◌, ◌≤◌, ◌==◌, ◌||◌, ◌↔◌, ℕ, length, min, vec_len, option_map, sum_by, IfOk, IfSome, IsTrue, MatchResult};
 ghost use Rattle.std.specs.List.{concat, filter_map, list_any};
 ghost use Rattle.rn_text.specs.Texts.{text_cmp};
 ghost use Rattle.rn_graph.specs.Graph.{AllBelow, IsGraph, is_marked, rows_of};
@@ -11,7 +11,6 @@ ghost use Rattle.rn_assemble.specs.inside.Checked.{IsFirstOfModules};
 ghost use Rattle.rn_assemble.specs.inside.Views.{AreInOrder, module_number, module_numbers, modules_view, texts_of};
 
 use crate::by_key::references::lesser_name;
-use crate::including::instances::{INSTANCE_LIMIT, instances_up_to};
 use crate::reading::named_modules::{ModuleId, NamedModule};
 use crate::refusal::Refusal;
 use rn_graph::Rows;
@@ -19,6 +18,10 @@ use rn_graph::ranks::least_looped;
 use rn_syntax::includes;
 use std::alloc::{AllocError, Global};
 use std::cmp::Ordering;
+
+/// The most instances of modules that a set may have: each root counts one, and so does each include that is followed
+/// from there, however often its module comes. A set with more is refused as `Refusal::Instances`.
+pub const INSTANCE_LIMIT: usize = 512;
 
 /// The modules that no module includes. Or the first refusal that stands, of `Missing`, `Cycle` and `Instances`;
 /// `Memory` comes only where memory runs out.
@@ -169,4 +172,22 @@ fn has_too_many_instances(rows: &Rows, roots: &[ModuleId]) -> bool
         count += instances_up_to(rows, *root, INSTANCE_LIMIT + 1 - count);
     }
     count > INSTANCE_LIMIT
+}
+
+/// How many instances a module has, but at most `most`.
+pub(crate) fn instances_up_to(edges: &Rows, module: ModuleId, most: usize) -> usize
+    requires graph { IsGraph (rows_of edges.now) }
+    requires within { «module».0 < length (rows_of edges.now) }
+    ensures up_to { result ≤ most }
+    ensures counted { (depth : ℕ) → most ≤ depth
+        → result ≡ min most (instances_of depth (rows_of edges.now) «module».0) }
+{
+    if most == 0 {
+        return 0;
+    }
+    let mut count = 1;
+    for inner in edges.row(module.0) {
+        count += instances_up_to(edges, ModuleId(*inner), most - count);
+    }
+    count
 }

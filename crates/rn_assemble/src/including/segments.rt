@@ -11,7 +11,7 @@ ghost use Rattle.rn_assemble.specs.inside.Placing.{AddsSegment, IsFirstOf, Notes
 ghost use Rattle.rn_assemble.specs.inside.Segments.{AreSegments, AreSegmentsOf, HavePlaces, places_at, places_in};
 ghost use Rattle.rn_assemble.specs.inside.Views.{inclusion_view, module_numbers};
 
-use crate::including::instances::INSTANCE_LIMIT;
+use crate::including::inclusion::INSTANCE_LIMIT;
 use crate::reading::contents::{Contents, Include};
 use crate::reading::named_modules::ModuleId;
 use crate::resolving::constants::Constants;

@@ -6,8 +6,7 @@ ghost use Rattle.rn_pattern.specs.Tree as tree;
 ghost use Rattle.rn_pattern.specs.View.{parameters_view, pattern_view, shared_view, boxed_view, shared_trees};
 
 use crate::resolving::constants::Constants;
-use rn_pattern::boxes::{new_box, new_shared};
-use rn_pattern::{Data, Pattern, SmallString, Value};
+use rn_pattern::{Data, Pattern, SmallString, Value, new_box, new_shared};
 use std::alloc::{AllocError, Global};
 use std::rc::{Rc, RcStr};
 

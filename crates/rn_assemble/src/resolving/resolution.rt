@@ -17,8 +17,7 @@ use crate::resolving::nodes::{
     choice, group, interleave, list, mixed_pattern, new_member, one_or_more, optional_pattern,
     reference, typed_datum, typed_value,
 };
-use rn_pattern::boxes::new_box;
-use rn_pattern::{NameClass, Named, Pattern, SmallString};
+use rn_pattern::{NameClass, Named, Pattern, SmallString, new_box};
 use rn_syntax::{AnyName, Data, Datatype, Nc, Operator, Param, Pat, Postfix, PrefixedName, Value};
 use std::alloc::{AllocError, Global};
 use std::rc::{Rc, RcStr};

@@ -5,8 +5,8 @@ use Rattle.std.proofs.lemmas.Bool.{cond-false}
 use Rattle.rn_text.specs.Texts.{Text}
 use Rattle.rn_pattern.specs.Document.{Item, Items, no_items, more_items}
 use Rattle.rn_pattern.specs.Tree.{NameTree, Tree, Trees, ref, list, attribute, element, one_or_more, group, interleave, choice, no_trees, more_trees}
-use Rattle.rn_syntax.specs.declared.token.Operator.TheVariants as o
-use Rattle.rn_syntax.specs.declared.token.Postfix.TheVariants as r
+use Rattle.rn_syntax.specs.declared.tree.Operator.TheVariants as o
+use Rattle.rn_syntax.specs.declared.tree.Postfix.TheVariants as r
 use Rattle.rn_syntax.specs.Tree as t
 use Rattle.rn_syntax.specs.Tree.{NameClass, Pattern, Patterns, Declaration}
 use Rattle.rn_assemble.specs.Resolve.{default_of, namespace_of, type_library, resolved_class, resolved_pattern, resolved_patterns}

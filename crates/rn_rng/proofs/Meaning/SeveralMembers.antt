@@ -1,6 +1,6 @@
 -- In the tree of a text each choice of name classes and each group, interleave or choice has several members.
 use Rattle.std.specs.Prelude.{⊤, List, [], ◌∷◌}
-use Rattle.rn_syntax.specs.declared.token.Operator.{Operator}
+use Rattle.rn_syntax.specs.declared.tree.Operator.{Operator}
 use Rattle.rn_syntax.specs.Tree as t
 use Rattle.rn_syntax.specs.Tree.{NameClass, NameClasses, Pattern, Patterns, Item, Items, Module, classes_of, patterns_of, items_of}
 use Rattle.rn_syntax.specs.Grammar as g

@@ -3,7 +3,7 @@ use Rattle.std.specs.Prelude.{ℕ, Bool, not, ◌||◌, ◌==◌, List, [], ◌�
 use Rattle.rn_text.specs.Texts.{Text}
 use Rattle.rn_pattern.specs.Document as document
 use Rattle.rn_pattern.specs.Document.{Item, Items}
-use Rattle.rn_syntax.specs.declared.token.Operator.{Operator}
+use Rattle.rn_syntax.specs.declared.tree.Operator.{Operator}
 use Rattle.rn_syntax.specs.declared.tree.Nc.{Nc}
 use Rattle.rn_syntax.specs.declared.tree.Pat.{Pat}
 use Rattle.rn_syntax.specs.Tree.{Declaration, NameClass, Pattern}

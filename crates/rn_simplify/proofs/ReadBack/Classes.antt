@@ -17,7 +17,7 @@ use Rattle.rn_syntax.specs.Grammar as g
 use Rattle.rn_syntax.specs.Grammar.{Tokens, IsNameClass, IsClassOperand, IsClassPrimary, IsClassCore, AreMoreClasses}
 use Rattle.rn_syntax.specs.Places.{place_if}
 use Rattle.rn_syntax.specs.TokenTerminals.{symbol_rows}
-use Rattle.rn_syntax.specs.declared.token.Operator.TheVariants as o
+use Rattle.rn_syntax.specs.declared.tree.Operator.TheVariants as o
 use Rattle.rn_syntax.proofs.TokenKinds.PieceTokens.{terms, behind, terms-append, prefixed_term, any_term}
 use Rattle.rn_syntax.proofs.Lists.EmptyLists.{both_nil}
 use Rattle.rn_simplify.specs.Spelling.{space, symbol, any_of, infix_of, Prefixes, namespace_prefix, closed, chained, NodeText, node_text, operand, primary, in_parentheses, chain, written_name, written_names}

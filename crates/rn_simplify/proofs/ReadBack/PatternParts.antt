@@ -13,10 +13,10 @@ use Rattle.rn_syntax.specs.Tree.{Pattern}
 use Rattle.rn_syntax.specs.Grammar as g
 use Rattle.rn_syntax.specs.Grammar.{Tokens, IsPattern, IsOperand, IsPrimary, IsCore}
 use Rattle.rn_syntax.specs.TokenTerminals.{symbol_rows}
-use Rattle.rn_syntax.specs.declared.token.Operator.{Operator}
-use Rattle.rn_syntax.specs.declared.token.Operator.TheVariants as o
-use Rattle.rn_syntax.specs.declared.token.Postfix.{Postfix}
-use Rattle.rn_syntax.specs.declared.token.Postfix.TheVariants as pf
+use Rattle.rn_syntax.specs.declared.tree.Operator.{Operator}
+use Rattle.rn_syntax.specs.declared.tree.Operator.TheVariants as o
+use Rattle.rn_syntax.specs.declared.tree.Postfix.{Postfix}
+use Rattle.rn_syntax.specs.declared.tree.Postfix.TheVariants as pf
 use Rattle.rn_syntax.proofs.TokenKinds.PieceTokens.{terms, behind, terms-append}
 use Rattle.rn_simplify.specs.Spelling.{space, symbol, keyword, infix_of, comma, in_parentheses}
 use Rattle.rn_simplify.proofs.ReadBack.NamesAndLiterals.{Reads, space_breaks, bar_free, ampersand_free, comma_free}

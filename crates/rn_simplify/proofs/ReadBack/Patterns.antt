@@ -18,9 +18,9 @@ use Rattle.rn_syntax.specs.Grammar as g
 use Rattle.rn_syntax.specs.Grammar.{Tokens, IsPattern, IsOperand, IsPrimary, IsCore, AreMore}
 use Rattle.rn_syntax.specs.Places.{place_if}
 use Rattle.rn_syntax.specs.TokenTerminals.{symbol_rows, keyword_rows}
-use Rattle.rn_syntax.specs.declared.token.Operator.{Operator}
-use Rattle.rn_syntax.specs.declared.token.Operator.TheVariants as o
-use Rattle.rn_syntax.specs.declared.token.Postfix.TheVariants as pf
+use Rattle.rn_syntax.specs.declared.tree.Operator.{Operator}
+use Rattle.rn_syntax.specs.declared.tree.Operator.TheVariants as o
+use Rattle.rn_syntax.specs.declared.tree.Postfix.TheVariants as pf
 use Rattle.rn_syntax.proofs.TokenKinds.PieceTokens.{before, terms, behind, terms-append}
 use Rattle.rn_syntax.proofs.Lists.EmptyLists.{both_nil}
 use Rattle.rn_assemble.specs.Resolve.{default_of, resolved_class}

@@ -17,7 +17,7 @@ use Rattle.rn_syntax.specs.Grammar as g
 use Rattle.rn_syntax.specs.Grammar.{Tokens, IsDatatype, MayHaveParams}
 use Rattle.rn_syntax.specs.Places.{place_if, xsd_uri, unbound_type, wrong_builtin, context_value, is_context_type, is_library, has_any}
 use Rattle.rn_syntax.specs.TokenTerminals.{symbol_rows, keyword_rows}
-use Rattle.rn_syntax.specs.declared.token.Method.TheVariants as m
+use Rattle.rn_syntax.specs.declared.tree.Method.TheVariants as m
 use Rattle.rn_text.specs.declared.keywords.Keyword.TheVariants as k
 use Rattle.rn_syntax.proofs.TokenKinds.PieceTokens.{before, terms, behind, terms-append, prefixed_term}
 use Rattle.rn_assemble.specs.Resolve.{type_library, type_name}

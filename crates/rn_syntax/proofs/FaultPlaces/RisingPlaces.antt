@@ -9,7 +9,7 @@ use Rattle.rn_text.proofs.TokenLists.CutLexemes.{tokens_in_order}
 use Rattle.rn_syntax.specs.declared.fault.FaultKind.{FaultKind}
 use Rattle.rn_syntax.specs.declared.fault.FaultKind.TheVariants as kind
 use Rattle.rn_text.specs.Texts.{Text}
-use Rattle.rn_syntax.specs.declared.token.Operator.{Operator}
+use Rattle.rn_syntax.specs.declared.tree.Operator.{Operator}
 use Rattle.rn_syntax.specs.Terminal.{Terminal, Placed, ◌#◌}
 use Rattle.rn_syntax.specs.Tree as t
 use Rattle.rn_syntax.specs.Tree.{Datatype, Params, AnyName, NameClass, Pattern, Patterns, Uri, Declaration, Item, Module, patterns_of, classes_of, items_of}

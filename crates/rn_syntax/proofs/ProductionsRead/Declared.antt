@@ -4,7 +4,7 @@ use Rattle.std.proofs.lemmas.Bool.{false≢true}
 use Rattle.rn_text.specs.declared.source.Token.{Token}
 use Rattle.rn_text.specs.declared.keywords.Keyword.{Keyword}
 use Rattle.rn_text.specs.declared.keywords.Keyword.TheVariants as k
-use Rattle.rn_syntax.specs.declared.token.Method.TheVariants as m
+use Rattle.rn_syntax.specs.declared.tree.Method.TheVariants as m
 use Rattle.rn_syntax.specs.declared.productions.terminals.Terminal as code
 use Rattle.rn_syntax.specs.declared.productions.terminals.Terminal.TheVariants as c
 use Rattle.rn_syntax.specs.Terminal as x

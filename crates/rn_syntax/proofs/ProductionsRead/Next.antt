@@ -15,9 +15,9 @@ use Rattle.rn_syntax.specs.Grammar.{Tokens, IsWord, by_name, by_keyword}
 use Rattle.rn_syntax.specs.TokenTerminals.{placed, terminal_of}
 use Rattle.rn_syntax.specs.inside.Readers.{seen, rest, IsInside, IsSegmentOf, IsNext}
 use Rattle.rn_syntax.specs.Spelled.{BeginAt, last_end}
-use Rattle.rn_syntax.specs.declared.token.Method.TheVariants as m
+use Rattle.rn_syntax.specs.declared.tree.Method.TheVariants as m
 use Rattle.rn_syntax.specs.inside.Follow.{first_terminal, is_end, no_brace, Anything}
-use Rattle.rn_syntax.specs.declared.token.Method.{Method}
+use Rattle.rn_syntax.specs.declared.tree.Method.{Method}
 use Rattle.rn_syntax.specs.inside.Sequence.{IsToken, IsOf, of, IsWordAt, word_at, IsAssign, by_method}
 use Rattle.rn_syntax.specs.inside.Readers.{Stuck}
 use Rattle.rn_syntax.specs.Spelled.{AreSpelled, SpellsItsKind}

@@ -1,7 +1,7 @@
 -- What follows the annotation of an operand or of a primary.
 use Rattle.std.proofs.Common.{◌≡◌, ℕ, Bool, true, false, List, [], ◌∷◌, Some, refl, ap, sym, ◌∙◌, subst, unwrap_or}
 use Rattle.std.proofs.lemmas.Bool.{false≢true}
-use Rattle.rn_syntax.specs.declared.token.Postfix.{Postfix}
+use Rattle.rn_syntax.specs.declared.tree.Postfix.{Postfix}
 use Rattle.rn_syntax.specs.declared.productions.terminals.Terminal as code
 use Rattle.rn_syntax.specs.declared.productions.terminals.Terminal.TheVariants as c
 use Rattle.rn_text.specs.declared.source.Token.{Token}

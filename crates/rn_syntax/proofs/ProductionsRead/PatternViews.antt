@@ -4,7 +4,7 @@ use Rattle.std.specs.Prelude.{Result, Ok, Err}
 use Rattle.rn_syntax.specs.declared.fault.Fault.{Fault}
 use Rattle.rn_syntax.specs.inside.Boxes.{boxed_named_view}
 use Rattle.rn_syntax.specs.inside.Readers.{Makes}
-use Rattle.rn_syntax.specs.declared.token.Postfix.{Postfix}
+use Rattle.rn_syntax.specs.declared.tree.Postfix.{Postfix}
 use Rattle.rn_syntax.specs.Tree as t
 use Rattle.rn_syntax.specs.View.{boxed_view, class_view, datatype_view, params_view, pattern_view}
 use Rattle.rn_syntax.specs.declared.tree.Named.{Named}

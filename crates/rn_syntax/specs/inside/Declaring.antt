@@ -1,7 +1,7 @@
 -- Parts of declarations: what is left of them behind their first word (compact syntax, section 2, decl).
 use Rattle.std.specs.Prelude.{ℕ, List, ◌∷◌, Option, Some, None}
 use Rattle.rn_text.specs.declared.keywords.Keyword.TheVariants as k
-use Rattle.rn_syntax.specs.declared.token.Method.TheVariants as m
+use Rattle.rn_syntax.specs.declared.tree.Method.TheVariants as m
 use Rattle.rn_syntax.specs.Terminal.{Terminal, ◌#◌, keyword, assign}
 use Rattle.rn_syntax.specs.Tree as t
 use Rattle.rn_syntax.specs.Tree.{Declaration}

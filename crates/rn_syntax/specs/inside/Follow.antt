@@ -1,7 +1,7 @@
 -- What may stand behind each production, told by its first token (compact syntax, section 2).
 use Rattle.std.specs.Prelude.{◌≡◌, Bool, true, false, [], ◌∷◌, ⊤}
 use Rattle.rn_text.specs.declared.keywords.Keyword.TheVariants as k
-use Rattle.rn_syntax.specs.declared.token.Postfix.TheVariants as p
+use Rattle.rn_syntax.specs.declared.tree.Postfix.TheVariants as p
 use Rattle.rn_syntax.specs.Terminal.{Terminal, ◌#◌, any_of, ident, keyword, prefixed, segment, operator, postfix, minus, tilde, follow, left_brace, right_brace, left_bracket, other}
 use Rattle.rn_syntax.specs.Grammar.{Tokens}
 

@@ -1,6 +1,6 @@
 -- Parts of patterns: what is left of a production behind its front (compact syntax, section 2, pattern).
 use Rattle.std.specs.Prelude.{ℕ, List, ◌∷◌, Some}
-use Rattle.rn_syntax.specs.declared.token.Postfix.{Postfix}
+use Rattle.rn_syntax.specs.declared.tree.Postfix.{Postfix}
 use Rattle.rn_syntax.specs.Terminal.{◌#◌, postfix, minus, left_brace, right_brace}
 use Rattle.rn_syntax.specs.Tree as tree
 use Rattle.rn_syntax.specs.Tree.{Datatype, Params, NameClass, Pattern}

@@ -1,7 +1,7 @@
 -- Productions in sequence: what is read first, and what comes of it.
 use Rattle.std.specs.Prelude.{◌≡◌, ℕ, List, ◌∷◌, Bool, true, false}
-use Rattle.rn_syntax.specs.declared.token.Method.{Method}
-use Rattle.rn_syntax.specs.declared.token.Method.TheVariants as m
+use Rattle.rn_syntax.specs.declared.tree.Method.{Method}
+use Rattle.rn_syntax.specs.declared.tree.Method.TheVariants as m
 use Rattle.rn_syntax.specs.Terminal.{Terminal, Placed, ◌#◌, assign, ident, prefixed, segment, left_bracket}
 use Rattle.rn_syntax.specs.Grammar.{Tokens, IsWord, IsFollowName, IsAnnotation, MayHaveAnnotation, IsLiteral, IsClassCore, AreFollows}
 use Rattle.rn_syntax.specs.Tree as t

@@ -15,8 +15,7 @@ use super::terminals::{
 };
 use crate::constructors::{boxed, push_member};
 use crate::fault::Fault;
-use crate::token::{Operator, Postfix};
-use crate::tree::{AnyName, Nc, Prefix, PrefixedName};
+use crate::tree::{AnyName, Nc, Operator, Postfix, Prefix, PrefixedName};
 use rn_text::Token;
 use std::alloc::Global;
 

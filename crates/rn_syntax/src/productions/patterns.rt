@@ -19,8 +19,7 @@ use crate::constructors::{
     plain_value, push_member, reference, repeated, text, value,
 };
 use crate::fault::Fault;
-use crate::token::Postfix;
-use crate::tree::{Datatype, Named, Param, Pat};
+use crate::tree::{Datatype, Named, Param, Pat, Postfix};
 use rn_text::{Keyword, Token};
 use std::alloc::Global;
 

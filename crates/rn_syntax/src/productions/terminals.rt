@@ -10,13 +10,13 @@ ghost use Rattle.rn_text.specs.inside.Reading.{GoesPast};
 ghost use Rattle.rn_syntax.specs.inside.Readers.{IsInside, IsNext, IsSegmentOf, IsWhole, Passes, ReadsOne, rest, seen};
 ghost use Rattle.rn_syntax.specs.Spelled.{AreSpelled, BeginAt, SpellsItsKind};
 ghost use Rattle.rn_syntax.specs.inside.Sequence.{IsOf, IsWordAt, IsAssign};
-ghost use Rattle.rn_syntax.specs.declared.token.Method.TheVariants as method;
+ghost use Rattle.rn_syntax.specs.declared.tree.Method.TheVariants as method;
 ghost use Rattle.rn_syntax.specs.Terminal as terminal;
 ghost use Rattle.rn_syntax.specs.TokenTerminals as tokens;
 ghost use Rattle.rn_syntax.specs.TokenTerminals.{spelled_in, keyword_rows, symbol_rows};
 
 use crate::fault::Fault;
-use crate::token::{Method, Operator, Postfix};
+use crate::tree::{Method, Operator, Postfix};
 use rn_text::characters::{after_name_chars, split_first};
 use rn_text::{Keyword, Kind, Token, keyword_of};
 

@@ -1,6 +1,6 @@
 use Rattle.std.proofs.Common.{◌≡◌, ◌++◌, [], Some, None, rules, refl, sym, ap, ◌∙◌, subst, length, nat_eq, true, false}
 use Rattle.std.specs.Prelude.{codes}
-use Rattle.rn_syntax.specs.declared.token.Operator.TheVariants as o
+use Rattle.rn_syntax.specs.declared.tree.Operator.TheVariants as o
 use Rattle.rn_syntax.specs.declared.tree.Nc.{Nc, the_lemmas}
 use Rattle.rn_syntax.specs.Tree as tree
 use Rattle.rn_syntax.specs.Tree.{NameClass}

@@ -1,6 +1,6 @@
 use Rattle.std.proofs.Common.{◌++◌, ◌∷◌, ap, ◌∙◌, refl}
 use Rattle.std.specs.Prelude.{codes}
-use Rattle.rn_syntax.specs.declared.token.Operator.TheVariants as o
+use Rattle.rn_syntax.specs.declared.tree.Operator.TheVariants as o
 use Rattle.std.specs.Prelude.{Some}
 use Rattle.rn_syntax.specs.View.{pattern_view}
 use Rattle.rn_rng.specs.declared.element_context.ElementContext.{ElementContext}

@@ -2,7 +2,7 @@ use Rattle.std.proofs.Common.{◌≡◌, ◌++◌, [], ◌∷◌, Some, None, ru
 use Rattle.std.specs.Prelude.{codes, cond}
 use Rattle.std.specs.Cow.{cow_str_bytes}
 use Rattle.rn_pattern.specs.Document.{no_items}
-use Rattle.rn_syntax.specs.declared.token.Operator.TheVariants as o
+use Rattle.rn_syntax.specs.declared.tree.Operator.TheVariants as o
 use Rattle.rn_syntax.specs.declared.tree.Pat.{Pat}
 use Rattle.rn_syntax.specs.Tree as tree
 use Rattle.rn_syntax.specs.Tree.{Pattern}

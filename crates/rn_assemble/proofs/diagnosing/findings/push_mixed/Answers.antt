@@ -1,6 +1,6 @@
 -- What one key more has by both methods.
 use Rattle.std.proofs.Common.{◌≡◌, ◌+◌, ◌<◌, List, suc, length, sym, ap, ◌∙◌, subst, arith}
-use Rattle.rn_syntax.specs.declared.token.Method.TheVariants as m
+use Rattle.rn_syntax.specs.declared.tree.Method.TheVariants as m
 use Rattle.std.specs.Prelude.{Some}
 use Rattle.rn_assemble.specs.Components.{set_components}
 use Rattle.rn_assemble.specs.Refusal.{mixed_methods}

@@ -9,7 +9,7 @@ use Rattle.rn_syntax.specs.declared.tree.Item.{fold-roll-Item}
 use Rattle.rn_syntax.specs.declared.tree.Item.TheOpen.{Item-F}
 use Rattle.rn_syntax.specs.declared.tree.Item.TheVariants.{rolls-Define}
 use Rattle.rn_syntax.specs.declared.tree.Item.TheVariants as written
-use Rattle.rn_syntax.specs.declared.token.Method.{Method}
+use Rattle.rn_syntax.specs.declared.tree.Method.{Method}
 use Rattle.rn_syntax.specs.declared.tree.Pat.{Pat}
 use Rattle.rn_assemble.specs.inside.Keyed.{texts_of, defines, item_defines}
 use Rattle.rn_assemble.proofs.reading.keys.+names.Goals as goal

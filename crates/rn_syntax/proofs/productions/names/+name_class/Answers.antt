@@ -6,7 +6,7 @@ use Rattle.rn_syntax.specs.inside.Boxes.{boxed_class_view}
 use Rattle.rn_syntax.proofs.ProductionsRead.Compose.{on_fault, made_advanced, made_reads, one_on, passed_past, advanced_on, took_upto, stuck_upto, reads_upto, upto_then}
 use Rattle.rn_syntax.proofs.ProductionsRead.Chaining.{chain_read, chain_stuck, chain_end, pushed}
 use Rattle.rn_syntax.specs.Terminal.{operator}
-use Rattle.rn_syntax.specs.declared.token.Operator.TheVariants as o
+use Rattle.rn_syntax.specs.declared.tree.Operator.TheVariants as o
 use Rattle.rn_syntax.proofs.ProductionsRead.Next.{terminal_at, next_two, place_is, word_at_keyword}
 use Rattle.rn_syntax.proofs.ProductionsRead.Classes.{word_core, prefixed_core, parens_inner, parens_stuck, parens_took, no_core, followed_took, followed_stuck, end_core, end_stuck, primary_body, primary_stuck, any_at, operand_body, operand_stuck, operand_plain, operand_any, except_took, except_stuck, tail_plain, classes_chain, class_first, class_stuck, class_alone, so_far_same, word_first}
 use Rattle.rn_syntax.proofs.ProductionsRead.Skipping.{bare_here}
