@@ -79,52 +79,16 @@ pub fn diagnosis_of<'s>(
     }
 }
 
-/// The number of the finding that the set is refused for; `None` for a refusal of another kind.
-pub fn first_finding(
-    diagnosis: &Diagnosis<'_>,
-    sites: &Sites<'_>,
-    refusal: &Refusal,
-) -> Option<usize> {
-    for (number, finding) in diagnosis.findings.iter().enumerate() {
-        if is_refused_for(diagnosis, sites, finding, refusal) {
-            return Some(number);
-        }
-    }
-    None
-}
-
-/// Whether a refusal is the one for a finding.
-fn is_refused_for(
-    diagnosis: &Diagnosis<'_>,
-    sites: &Sites<'_>,
-    finding: &Finding<'_>,
-    refusal: &Refusal,
-) -> bool {
-    match (finding, refusal) {
-        (
-            Finding::Override { key, include, .. },
-            Refusal::Override {
-                module,
-                key: refused,
-            },
-        ) => { is_key(diagnosis, *key, refused) && sites.name(include.module.0) == module.as_str() }
-        (Finding::PlainTwice { key, .. }, Refusal::PlainTwice { key: refused }) => {
-            is_key(diagnosis, *key, refused)
-        }
-        (Finding::MixedMethods { key, .. }, Refusal::MixedMethods { key: refused }) => {
-            is_key(diagnosis, *key, refused)
-        }
-        (Finding::NoStart, Refusal::NoStart) => true,
-        (Finding::Undefined { name, .. }, Refusal::Undefined { name: refused }) => {
-            *name == refused.as_str()
-        }
-        _ => false,
-    }
-}
-
-/// Whether a key is that of a refusal.
-fn is_key(diagnosis: &Diagnosis<'_>, key: KeyId, refused: &Key) -> bool {
-    diagnosis.name(key) == name_of_key(refused)
+/// Whether a refusal has findings: all of its kind are found, and it is the first of them.
+pub fn has_findings(refusal: &Refusal) -> bool {
+    matches!(
+        refusal,
+        Refusal::Override { .. }
+            | Refusal::PlainTwice { .. }
+            | Refusal::MixedMethods { .. }
+            | Refusal::NoStart
+            | Refusal::Undefined { .. }
+    )
 }
 
 /// The name of a key; nothing for the start.

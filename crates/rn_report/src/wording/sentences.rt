@@ -6,7 +6,7 @@ use super::file_messages::text_messages;
 use super::general_sentences::{general_kind, general_sentence};
 use crate::finding::findings::{
     Extent, FindingKind, Telling, ToldFinding, diagnosis_of, finding_alike, first_alike,
-    first_finding, name_of_key, spelled_key, told_finding,
+    has_findings, name_of_key, spelled_key, told_finding,
 };
 use crate::finding::nearest_keys::{provided_advice, undefined_name};
 use crate::message_kinds::MessageKind;
@@ -92,9 +92,10 @@ fn diagnosis_messages(
         sites: &sites,
         diagnosis,
     };
-    match first_finding(diagnosis, &sites, refusal) {
-        Some(first) => tell(&telling, first, extent),
-        None => Messages::of_message(alloc, refusal_message(&telling, refusal)?),
+    if has_findings(refusal) {
+        tell(&telling, extent)
+    } else {
+        Messages::of_message(alloc, refusal_message(&telling, refusal)?)
     }
 }
 
@@ -113,15 +114,15 @@ fn is_of_text(refusal: &Refusal) -> bool {
     )
 }
 
-/// The messages of the findings from this one on that are faults.
-fn tell(telling: &Telling<'_>, first: usize, extent: Extent) -> Result<Messages, AllocError>
+/// The messages of the findings that are faults.
+fn tell(telling: &Telling<'_>, extent: Extent) -> Result<Messages, AllocError>
     ensures { IfOk result IsFew }
 {
     let firsts = first_alike(telling.alloc, telling.sites.lifted)?;
     let mut seen = BTreeSet::new(telling.alloc);
     let mut told = Messages::new(telling.alloc);
-    for number in first..telling.diagnosis.findings.len() {
-        let finding = told_finding(telling, &telling.diagnosis.findings[number]);
+    for finding in &telling.diagnosis.findings {
+        let finding = told_finding(telling, finding);
         let is_fault = extent.counts(finding.kind);
         if is_fault && seen.insert(finding_alike(firsts.as_slice(), finding))? {
             tell_finding(telling, &mut told, finding)?;
