@@ -1,14 +1,21 @@
 -- What stands against a set, all of it (RELAX NG 2001, 4.7, 4.17 and 4.18).
-use Rattle.std.specs.Prelude.{ℕ, zero, suc, ◌≡◌, false, List, [], map, slice_index_or, Contains}
+use Rattle.std.specs.Prelude.{ℕ, zero, suc, ◌≡◌, ◌<◌, ◌≤◌, ◌⊎◌, false, List, [], map, slice_get, slice_index_or, AllPairs, Contains, Some, ⊤}
 use Rattle.std.specs.List.{AllByRecursion}
-use Rattle.rn_text.specs.Texts.{Text}
+use Rattle.std.specs.declared.cmp.Ordering.TheVariants.{Less}
+use Rattle.rn_text.specs.Texts.{Text, text_cmp}
+use Rattle.rn_syntax.specs.declared.tree.Method.{Method}
+use Rattle.rn_syntax.specs.declared.tree.Method.TheVariants as methods
 use Rattle.rn_pattern.specs.References.{IsUndefined}
 use Rattle.rn_assemble.specs.Combine.{IsMixed, IsPlainTwice}
 use Rattle.rn_assemble.specs.Components.{Key, NamedModule, has_key, name_key, set_components, start_key}
-use Rattle.rn_assemble.specs.Refusal.{Refusal, override, plain_twice, mixed_methods, no_start, undefined, Lacks, grammar_of}
+use Rattle.rn_assemble.specs.Least.{key_cmp}
+use Rattle.rn_assemble.specs.Refusal.{Refusal, override, plain_twice, mixed_methods, no_start, undefined, rank, Lacks, grammar_of}
+use Rattle.rn_assemble.specs.Written.{WrittenComponent, Inclusion, inclusions_at, written_at}
 use Rattle.rn_assemble.specs.declared.diagnosing.diagnosis.Diagnosis.{Diagnosis}
 use Rattle.rn_assemble.specs.declared.diagnosing.findings.Finding.{Finding}
 use Rattle.rn_assemble.specs.declared.diagnosing.findings.Finding.TheVariants as f
+use Rattle.rn_assemble.specs.declared.diagnosing.places.ComponentPlace.{ComponentPlace}
+use Rattle.rn_assemble.specs.declared.diagnosing.places.IncludePlace.{IncludePlace}
 
 -- the key of a number, where these are the names of the keys: the start is number 0, and has no name
 abbrev pub key_numbered : List Text → ℕ → Key
@@ -36,10 +43,67 @@ IsTrueFor modules q = ⊥
 abbrev pub AreTrue : List NamedModule → List Text → List Finding → Type 0
 AreTrue modules names fs = AllByRecursion (λ (x : Finding). IsTrueFor modules (finding_refusal modules names x)) fs
 
--- each finding is a refusal that is true of the modules, and each refusal that is true has a finding, of those of which all can be found
+-- ---- in order
+
+-- of two refusals of one kind, the first has the lesser module, or the lesser key in the same module, or the lesser name
+abbrev pub IsLesser : Refusal → Refusal → Type 0
+IsLesser (override x k) (override y j) = (text_cmp x y ≡ Less) ⊎ ((x ≡ y) × (key_cmp k j ≡ Less))
+IsLesser (plain_twice k) (plain_twice j) = key_cmp k j ≡ Less
+IsLesser (mixed_methods k) (mixed_methods j) = key_cmp k j ≡ Less
+IsLesser (undefined x) (undefined y) = text_cmp x y ≡ Less
+IsLesser q r = ⊥
+
+-- where both are true, a set is refused for the first
+abbrev pub ComesBefore : Refusal → Refusal → Type 0
+ComesBefore q r = (rank q < rank r) ⊎ IsLesser q r
+
+-- each finding comes before those behind it
+abbrev pub AreFindingsInOrder : List NamedModule → List Text → List Finding → Type 0
+AreFindingsInOrder modules names fs = AllPairs (λ (x y : Finding). ComesBefore (finding_refusal modules names x) (finding_refusal modules names y)) fs
+
+-- ---- where they are
+
+-- the definition of that number of the module is of the key and by the method
+pub record IsDefinition (modules : List NamedModule) (p : ComponentPlace) (k : Key) (method : Method) : Type 0 where
+  pub definition : WrittenComponent
+  pub at : slice_get (written_at modules p.module.0) p.number ≡ Some definition
+  pub key_is : definition.key ≡ k
+  pub method_is : definition.method ≡ method
+
+-- the definition of that number of the module is of the key, and one of the include's own
+pub record IsOwnDefinition (modules : List NamedModule) (include : IncludePlace) (p : ComponentPlace) (k : Key) : Type 0 where
+  pub inclusion : Inclusion
+  pub include_is : slice_get (inclusions_at modules include.module.0) include.number ≡ Some inclusion
+  pub module_is : p.module.0 ≡ include.module.0
+  pub from : inclusion.first ≤ p.number
+  pub to : p.number < inclusion.end
+  pub definition : WrittenComponent
+  pub at : slice_get (written_at modules p.module.0) p.number ≡ Some definition
+  pub key_is : definition.key ≡ k
+
+-- the definitions and the include of a finding are those that it speaks of
+abbrev pub IsPlaced : List NamedModule → List Text → Finding → Type 0
+IsPlaced modules names (f.Override k component include) = IsOwnDefinition modules include component (key_numbered names k.0)
+IsPlaced modules names (f.PlainTwice k first second parting) = IsDefinition modules first (key_numbered names k.0) methods.Plain × IsDefinition modules second (key_numbered names k.0) methods.Plain
+IsPlaced modules names (f.MixedMethods k choice interleave) = IsDefinition modules choice (key_numbered names k.0) methods.Choice × IsDefinition modules interleave (key_numbered names k.0) methods.Interleave
+IsPlaced modules names f.NoStart = ⊤
+IsPlaced modules names (f.Undefined x reference) = ⊤
+
+-- ---- all of them
+
+-- each finding is a refusal that is true of the modules, and each refusal that is true has a finding, of those of which all can be found; they are in the order in which the modules are refused for them
 pub record AreFindings (modules : List NamedModule) (names : List Text) (fs : List Finding) : Type 0 where
   pub true_of : AreTrue modules names fs
   pub all : (q : Refusal) → IsTrueFor modules q → (x : Finding) × Contains fs x × (finding_refusal modules names x ≡ q)
+  pub in_order : AreFindingsInOrder modules names fs
+
+-- the first finding is the refusal
+abbrev pub IsFirstFinding : List NamedModule → List Text → List Finding → Refusal → Type 0
+IsFirstFinding modules names fs r = (x : Finding) × (slice_get fs 0 ≡ Some x) × (finding_refusal modules names x ≡ r)
+
+-- each finding is where it says
+abbrev pub ArePlaced : List NamedModule → List Text → List Finding → Type 0
+ArePlaced modules names fs = AllByRecursion (IsPlaced modules names) fs
 
 -- the names of the keys of a diagnosis
 abbrev pub key_names : Diagnosis → List Text

@@ -44,6 +44,7 @@ pub expanded : (modules : List NamedModule) (names : List Text) (rows : KeyRows)
 expanded modules names rows x numbers o flat a are segments found = record {
   numbers = numbers;
   included = a;
+  modules_in_order = o;
   in_order = are.names_are.in_order;
   rows_are = are;
   segments_are = subst (AreSegmentsOf modules x) (from_roots modules numbers a) segments;

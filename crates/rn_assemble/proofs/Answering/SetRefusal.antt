@@ -16,7 +16,7 @@ use Rattle.rn_assemble.proofs.Refusals.OneSet.{one_effective, one_modules}
 use Rattle.rn_assemble.proofs.WellFormed.GoodComponents.{modules_faultless, set_grammar_writable}
 
 module _ (s : List Member) (modules : List NamedModule) (a : AreModules s modules) where
-  stands_back : (q : Refusal) → Stands s q → StandsFor modules q
+  pub stands_back : (q : Refusal) → Stands s q → StandsFor modules q
   stands_back (conflict x v) h = a.are_effective.agreed x v h.0
   stands_back (faulty f x) h = absurd (a.faultless x (subst (λ (ts : List Module). IsFaulty ts x) (one_effective s h.0 a.texts h.1 a.are_effective) h.2.holds))
   stands_back q h = subst (λ (l : List NamedModule). StandsFor l q) (one_modules one_tree s h.0 modules h.1 a) h.2

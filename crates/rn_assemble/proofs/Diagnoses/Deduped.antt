@@ -1,9 +1,16 @@
 -- What is left where the first of those that are alike is left.
-use Rattle.std.proofs.Common.{◌≡◌, ◌⊎◌, inl, inr, ⊎_elim, Bool, true, false, cond, List, [], ◌∷◌, refl, sym, ap, ◌∙◌, subst, arith}
+use Rattle.std.proofs.Common.{◌≡◌, ◌⊎◌, inl, inr, ⊎_elim, Bool, true, false, cond, Ordering, Less, Equal, Greater, List, [], ◌∷◌, refl, sym, ap, ◌∙◌, subst, arith}
 use Rattle.std.specs.Prelude.{Contains, IsPermutation}
 use Rattle.std.specs.List.{dedup, dedup_from}
+use Rattle.std.specs.Ordering.{is_lt, ordering_then}
 use Rattle.std.proofs.lemmas.List.Sorted.{Contains-permutation, IsPermutation-sym}
 use Rattle.rn_pattern.proofs.Ordered.InOrder.{contains_behind, contains_cases, contains_front}
+
+-- what isn't less by two orders in turn isn't less by the first
+pub lesser_first : (a b : Ordering) → is_lt (ordering_then a b) ≡ false → is_lt a ≡ false
+lesser_first Less b h = h
+lesser_first Equal b h = refl
+lesser_first Greater b h = refl
 
 module _ {X Y : Type 0} (same : Y → Y → Bool) (at : Y → X) (stands : (x y : Y) → same x y ≡ true → at x ≡ at y) where
   -- the element is k, or one of the others

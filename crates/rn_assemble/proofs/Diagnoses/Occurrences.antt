@@ -115,8 +115,11 @@ module _ (row : List code.WrittenComponent) (test : Method → Bool) where
       last : sum_by (count_in row test) (pieces ++ p ∷ []) ≡ sum_by (count_in row test) pieces + count_in row test p
       last = let one = sum_by-cons (count_in row test) p [] in sum_by-append (count_in row test) pieces (p ∷ []) ∙ ap (λ n. sum_by (count_in row test) pieces + n) (omega (arith, one))
 
-  -- each is of a component of the row
-  pub occurs_within : (pieces : List Piece) (found : List Occurrence) → AreFirstTwo row pieces test found → (i : ℕ) (o : Occurrence) → i < length found → o ≡ get_or found i o → o.index < length row
-  occurs_within pieces found h i o l e =
+  -- each is of a component of the row that passes
+  pub occurs_at : (pieces : List Piece) (found : List Occurrence) → AreFirstTwo row pieces test found → (i : ℕ) (o : Occurrence) → i < length found → o ≡ get_or found i o → (w : code.WrittenComponent) × (slice_get row o.index ≡ Some w) × (test w.method ≡ true)
+  occurs_at pieces found h i o l e =
       let (p, among, is) = contained_each (InOneOf pieces) found h.each o (i, l, sym e) in
-      slice_get_within row o.index is.component is.at
+      (is.component, is.at, is.passes)
+
+  pub occurs_within : (pieces : List Piece) (found : List Occurrence) → AreFirstTwo row pieces test found → (i : ℕ) (o : Occurrence) → i < length found → o ≡ get_or found i o → o.index < length row
+  occurs_within pieces found h i o l e = let (w, at, passes) = occurs_at pieces found h i o l e in slice_get_within row o.index w at

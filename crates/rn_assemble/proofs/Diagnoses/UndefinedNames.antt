@@ -1,6 +1,7 @@
 -- Names that are referred to and not defined, gathered reference by reference and key by key.
-use Rattle.std.proofs.Common.{◌≡◌, ◌⊎◌, ℕ, suc, ◌+◌, ◌<◌, ⊎_elim, inl, inr, Bool, List, [], ◌∷◌, ◌++◌, length, map, sym, ap, ◌∙◌, subst, arith}
+use Rattle.std.proofs.Common.{◌≡◌, ◌⊎◌, ℕ, suc, ◌+◌, ◌<◌, ⊎_elim, inl, inr, Bool, List, [], ◌∷◌, ◌++◌, length, map, refl, sym, ap, ◌∙◌, subst, arith}
 use Rattle.std.specs.Prelude.{◌↔◌, Contains}
+use Rattle.std.specs.List.{AllByRecursion}
 use Rattle.std.proofs.lemmas.Bool.{cases_lt}
 use Rattle.std.proofs.lemmas.List.Elements.{Contains-append_cases, Contains-append_left, Contains-append_right, Contains-push, Contains-push_cases}
 use Rattle.rn_text.specs.Texts.{Text}
@@ -8,14 +9,15 @@ use Rattle.rn_pattern.proofs.Ordered.InOrder.{contains_cases, contains_front, ea
 use Rattle.rn_pattern.specs.Reached.{RefersTo}
 use Rattle.rn_assemble.specs.Combine.{joined_pattern}
 use Rattle.rn_assemble.specs.Components.{Component, NamedModule, set_components}
-use Rattle.rn_assemble.specs.Diagnosed.{IsTrueFor, finding_refusal}
+use Rattle.rn_assemble.specs.Diagnosed.{IsPlaced, IsTrueFor, finding_refusal}
 use Rattle.rn_assemble.specs.Refusal.{Refusal, undefined, rank}
 use Rattle.rn_assemble.specs.declared.diagnosing.findings.Finding.{Finding}
 use Rattle.rn_assemble.specs.declared.diagnosing.undefined_names.UndefinedName.{UndefinedName}
-use Rattle.rn_assemble.specs.inside.Diagnosing.{AddsRank, AddsUnmarked, AreUndefined, KeepsNames, undefined_finding}
+use Rattle.rn_assemble.specs.inside.Diagnosing.{AddsRank, AddsUnmarked, AreUndefined, KeepsNames, undefined_cmp, undefined_finding}
 use Rattle.rn_assemble.specs.inside.Keyed.{key_at}
 use Rattle.rn_assemble.specs.inside.ReferenceOrder.{AreDefinedKeys}
 use Rattle.rn_assemble.specs.inside.Referred.{AreMarksOf, IsMarkedName}
+use Rattle.rn_assemble.proofs.Diagnoses.RefusalOrder.{in_order_map}
 use Rattle.rn_assemble.proofs.Referring.GatheredReferences.{undefined_unmarked, unmarked_undefined}
 use Rattle.rn_assemble.proofs.Referring.ListMembers.{map_contained, map_contains}
 
@@ -84,6 +86,7 @@ module _ (names : List Text) (cs : List Component) (marks : List Bool) where
         let (u, among, is) = h.all n x (omega (arith, l, size)) r never in
         let (v, there, same) = k.all u among in
         (v, there, same ∙ is);
+    in_order = k.in_order;
   }
 
 -- what is said of them
@@ -91,12 +94,16 @@ pub undefined_said : (modules : List NamedModule) (names : List Text) (us : List
 undefined_said modules names us h old new is = record {
   added = map undefined_finding us;
   new_is = is;
-  true_of = each_contained (λ f. IsTrueFor modules (finding_refusal modules ([] ∷ names) f)) (map undefined_finding us) (λ f c.
-      let (u, among, same) = map_contained undefined_finding us f c in
-      subst (λ f. IsTrueFor modules (finding_refusal modules ([] ∷ names) f)) same (h.each u among));
+  true_of = of_each (λ f. IsTrueFor modules (finding_refusal modules ([] ∷ names) f)) h.each;
+  ranked = of_each (λ f. rank (finding_refusal modules ([] ∷ names) f) ≡ 9) (λ u among. refl);
+  in_order = in_order_map modules ([] ∷ names) undefined_finding undefined_cmp (Contains us) (λ u v c d less. inr less) us h.in_order (each_contained (Contains us) us (λ u c. c));
+  placed = of_each (IsPlaced modules ([] ∷ names)) (λ u among. tt);
   all = every;
 }
   where
+    of_each : (Q : Finding → Type 0) → ((u : UndefinedName) → Contains us u → Q (undefined_finding u)) → AllByRecursion Q (map undefined_finding us)
+    of_each Q each = each_contained Q (map undefined_finding us) (λ f c. let (u, among, same) = map_contained undefined_finding us f c in subst Q same (each u among))
+
     every : (q : Refusal) → rank q ≡ 9 → IsTrueFor modules q → (f : Finding) × Contains (map undefined_finding us) f × (finding_refusal modules ([] ∷ names) f ≡ q)
     every (undefined x) e t = let (u, among, same) = h.all x t in (undefined_finding u, map_contains undefined_finding us u among, ap undefined same)
     every q e t = absurd (omega (arith, e))

@@ -1,5 +1,5 @@
 -- What is known of modules whose includes were followed, and what is found of their components.
-use Rattle.std.specs.Prelude.{ℕ, ◌≡◌, ◌↔◌, List, MatchOption, ⊤}
+use Rattle.std.specs.Prelude.{ℕ, ◌≡◌, ◌↔◌, List, map, MatchOption, ⊤}
 use Rattle.std.specs.List.Sorted.{IsStrictlySortedBy}
 use Rattle.std.specs.String.{string_bytes}
 use Rattle.rn_text.specs.Texts.{Text, text_cmp}
@@ -17,10 +17,11 @@ use Rattle.rn_assemble.specs.inside.Segments.{AreSegmentsOf}
 use Rattle.rn_assemble.specs.Refusal.{Refusal, override, IsFirstFor, Lacks, StandsFor, grammar_of}
 use Rattle.rn_assemble.specs.Refused.{key_view, refusal_view}
 
--- no include refuses the modules, and these are the rows of their components by the numbers of these names, and their segments; an include that overrides what it didn't bring in is a lack of its module
+-- the modules come in the order of their names, no include refuses them, and these are the rows of their components by the numbers of these names, and their segments; an include that overrides what it didn't bring in is a lack of its module
 pub record AreExpanded (modules : List NamedModule) (names : List Text) (rows : KeyRows) (x : Segments) : Type 0 where
   pub numbers : List ℕ
   pub included : AreIncluded modules numbers
+  pub modules_in_order : IsStrictlySortedBy text_cmp (map (λ (m : NamedModule). m.name) modules)
   pub in_order : IsStrictlySortedBy text_cmp names
   pub rows_are : AreRows modules names rows.rows.items
   pub segments_are : AreSegmentsOf modules x (set_components modules)

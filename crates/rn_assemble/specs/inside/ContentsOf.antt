@@ -9,7 +9,8 @@ use Rattle.rn_assemble.specs.Components.{Component, NamedModule}
 use Rattle.rn_assemble.specs.Resolve.{resolved_pattern}
 use Rattle.rn_assemble.specs.declared.reading.contents.Contents.{Contents}
 use Rattle.rn_assemble.specs.declared.reading.contents.Include.{Include}
-use Rattle.rn_assemble.specs.inside.Contained.{WrittenComponent, written_components, inclusions}
+use Rattle.rn_assemble.specs.Written.{WrittenComponent, written_components, inclusions}
+pub use Rattle.rn_assemble.specs.Written.{written_at}
 use Rattle.rn_assemble.specs.inside.ContextBindings.{BindsAs}
 use Rattle.rn_assemble.specs.inside.Views.{inclusion_view}
 
@@ -33,10 +34,6 @@ name_at modules i = slice_index_or (map (λ (m : NamedModule). m.name) modules) 
 -- what the module at a place declares
 abbrev pub declarations_at : List NamedModule → ℕ → List Declaration
 declarations_at modules i = option_map_or (λ (m : NamedModule). m.tree.declarations) (slice_get modules i) []
-
--- the components of the module at a place
-abbrev pub written_at : List NamedModule → ℕ → List WrittenComponent
-written_at modules i = option_map_or (λ (m : NamedModule). written_components m.tree.items) (slice_get modules i) []
 
 -- a written component with its names resolved
 abbrev pub resolved_component : Text → List Declaration → WrittenComponent → Component

@@ -2,8 +2,9 @@
 ghost use Rattle.std.specs.Prelude.{◌≡◌, ◌+◌, ◌<◌, ◌∷◌, [], IfErr, IfOk, List, length};
 ghost use Rattle.std.specs.List.{AllByRecursion};
 ghost use Rattle.rn_assemble.specs.Components as specs;
-ghost use Rattle.rn_assemble.specs.Diagnosed.{AreFindings, key_names};
-ghost use Rattle.rn_assemble.specs.Refusal.{AreModules};
+ghost use Rattle.rn_assemble.specs.Diagnosed.{AreFindings, ArePlaced, IsFirstFinding, IsTrueFor, key_names};
+ghost use Rattle.rn_assemble.specs.Refusal as refusals;
+ghost use Rattle.rn_assemble.specs.Refusal.{AreModules, IsFirst};
 ghost use Rattle.rn_assemble.specs.Refused.{IsFirstRefusal};
 ghost use Rattle.rn_assemble.specs.inside.Checked.{IsFirstOfModules};
 ghost use Rattle.rn_assemble.specs.inside.Contained.{AreFlat};
@@ -74,8 +75,9 @@ impl<'s> Diagnosis<'s> {
     }
 }
 
-/// The definitions of a set, all that stands against it, and where a refusal of it is, if one is given. Refused as
-/// [`assemble`](crate::assemble) refuses the set for its texts and includes; `Memory` where memory runs out.
+/// The definitions of a set, all that stands against it, and where a refusal of it is, if one is given. The first finding is
+/// the set's refusal, where that is of a kind of which all can be found. Refused as [`assemble`](crate::assemble) refuses
+/// the set for its texts and includes; `Memory` where memory runs out.
 pub fn diagnose<'s>(
     alloc: Global,
     set: &'s ModuleSet,
@@ -84,6 +86,11 @@ pub fn diagnose<'s>(
     ensures err { IfErr result (IsFirstRefusal set.now) }
     ensures findings { (modules : List specs.NamedModule) → AreModules set.now modules → IfOk result
         (λ d. AreFindings modules (key_names d) d.findings.items) }
+    ensures first { (modules : List specs.NamedModule) (r : refusals.Refusal)
+        → AreModules set.now modules → IsFirst set.now r → IsTrueFor modules r → IfOk result
+        (λ d. IsFirstFinding modules (key_names d) d.findings.items r) }
+    ensures places { (modules : List specs.NamedModule) → AreModules set.now modules → IfOk result
+        (λ d. ArePlaced modules (key_names d) d.findings.items) }
 {
     let modules = read_modules(alloc, set)?;
     diagnose_modules(alloc, modules, refusal, &seed_of(set))
@@ -101,6 +108,8 @@ fn diagnose_modules<'s>(
         (modules_view modules.items) }
     ensures err { IfErr result (IsFirstOfModules (modules_view modules.entry.items)) }
     ensures findings { IfOk result (λ d. AreFindings (modules_view modules.entry.items)
+        (key_names d) d.findings.items) }
+    ensures places { IfOk result (λ d. ArePlaced (modules_view modules.entry.items)
         (key_names d) d.findings.items) }
 {
     let roots = included_roots(alloc, modules.as_slice())?;

@@ -1,11 +1,12 @@
 // What stands against combining a set, all of it (RELAX NG 2001, 4.7, 4.17 and 4.18).
 ghost use Rattle.std.specs.Prelude.{◌≡◌, ◌<◌, ◌∷◌, [], List, IfOk, IsTrue, length};
+ghost use Rattle.std.specs.List.Sorted.{IsStrictlySortedBy};
 ghost use Rattle.rn_text.specs.Texts.{Text};
 ghost use Rattle.rn_assemble.specs.Components.{Component, NamedModule};
-ghost use Rattle.rn_assemble.specs.Diagnosed.{AreFindings, finding_refusal, key_numbered};
+ghost use Rattle.rn_assemble.specs.Diagnosed.{AreFindings, ArePlaced, finding_refusal, key_numbered};
 ghost use Rattle.rn_assemble.specs.Refusal as refusals;
 ghost use Rattle.rn_assemble.specs.inside.Checked.{AreExpanded};
-ghost use Rattle.rn_assemble.specs.inside.Diagnosing.{AddsLack, AddsLacks, AddsRank, AreLacks, KeepsLacks, OfExpanded};
+ghost use Rattle.rn_assemble.specs.inside.Diagnosing.{AddsLack, AddsLacks, AddsRank, AreLacks, KeepsLacks, OfExpanded, SaysPlainTwice, lack_cmp};
 ghost use Rattle.rn_assemble.specs.inside.Pieces.{AreAllPieces, AreKnown, AreKnownBy, IsKnownRow, OfRow, overrides_in};
 ghost use Rattle.rn_assemble.specs.inside.Rows.{AreRows};
 ghost use Rattle.rn_assemble.specs.inside.Runs.{IsOrderedRow};
@@ -74,9 +75,12 @@ pub(crate) fn findings<'s>(
     segments: &Segments<'_, '_, '_>,
 ) -> Result<Vec<Finding<'s>>, AllocError>
     requires { AreKnownBy (names_of keys.now) rows.now segments.now }
-    ensures { (modules : List NamedModule)
+    ensures findings { (modules : List NamedModule)
         → AreExpanded modules (names_of keys.now) rows.now segments.now
         → IfOk result (λ found. AreFindings modules ([] ∷ names_of keys.now) found.items) }
+    ensures places { (modules : List NamedModule)
+        → AreExpanded modules (names_of keys.now) rows.now segments.now
+        → IfOk result (λ found. ArePlaced modules ([] ∷ names_of keys.now) found.items) }
 {
     let mut found = Vec::new(alloc);
     push_overrides(alloc, rows, segments, &mut found)?;
@@ -149,10 +153,11 @@ fn lacks_of(
     segments: &Segments<'_, '_, '_>,
 ) -> Result<Vec<Lack>, AllocError>
     requires { AreKnown rows.now segments.now }
-    ensures { (modules : List NamedModule) (names : List Text) (cs : List Component)
+    ensures lacks { (modules : List NamedModule) (names : List Text) (cs : List Component)
         → AreRows modules names rows.now.rows.items → AreSegmentsOf modules segments.now cs
         → IfOk result (λ found. AreLacks modules names segments.now (length rows.now.rows.items)
         found.items) }
+    ensures in_order { IfOk result (λ found. IsStrictlySortedBy lack_cmp found.items) }
 {
     let mut found = Vec::new(alloc);
     let mut pieces = Vec::new(alloc);
@@ -189,8 +194,8 @@ fn push_lacks(
     requires known { IsKnownRow row.now segments.now }
     requires all { AreAllPieces segments.now.list.items row.now pieces.now }
     ensures { OfRow row.now segments.now (λ modules k cs. IfOk result (λ _. AddsLacks
-        (λ b. IsLackOf modules segments.now.list.items b k) key.0 segments.now.brought.items
-        found.old.items found.new.items)) }
+        (λ b. IsLackOf modules segments.now.list.items b k) row.now key.0
+        segments.now.brought.items found.old.items found.new.items)) }
 {
     for include in &segments.brought {
         if lacks(row, pieces, include) {
@@ -209,7 +214,8 @@ fn push_lack(
 ) -> Result<(), AllocError>
     requires row_ordered { IsOrderedRow row.now }
     requires overrides { IsTrue (overrides_in row.now include.now) }
-    ensures { IfOk result (λ _. AddsLack key.0 include.now found.old.items found.new.items) }
+    ensures { IfOk result (λ _. AddsLack row.now key.0 include.now found.old.items
+        found.new.items) }
 {
     if let Some(component) = first_own(row, include) {
         found.push(Lack {
@@ -260,8 +266,9 @@ fn plain_twice<'s>(
 ) -> Finding<'s>
     requires first { first.index < length row.now }
     requires second { second.index < length row.now }
-    ensures { (modules : List NamedModule) (names : List Text)
+    ensures refusal { (modules : List NamedModule) (names : List Text)
         → finding_refusal modules names result ≡ refusals.plain_twice (key_numbered names key.0) }
+    ensures places { SaysPlainTwice key row.now first.index second.index result }
 {
     let parting = if first.index == second.index {
         parting_includes(segments, first.segment, second.segment)

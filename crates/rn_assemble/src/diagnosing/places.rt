@@ -1,4 +1,7 @@
 // How definitions and includes of modules are named: by numbers.
+ghost use Rattle.std.specs.Prelude.{◌≡◌};
+ghost use Rattle.rn_assemble.specs.inside.Diagnosing.{place_of};
+
 use crate::reading::key_rows::WrittenComponent;
 use crate::reading::keys::KeyId;
 use crate::reading::named_modules::ModuleId;
@@ -14,7 +17,9 @@ pub struct ComponentPlace {
 
 impl ComponentPlace {
     /// Where a component is.
-    pub(crate) fn of(component: &WrittenComponent<'_>) -> ComponentPlace {
+    pub(crate) fn of(component: &WrittenComponent<'_>) -> ComponentPlace
+        ensures { result ≡ place_of component.now }
+    {
         ComponentPlace {
             module: component.module,
             number: component.number,

@@ -1,6 +1,6 @@
 -- The modules are expanded, and all is found of them.
 use Rattle.std.proofs.Common.{sym, subst}
-use Rattle.rn_assemble.specs.Diagnosed.{AreFindings}
+use Rattle.rn_assemble.specs.Diagnosed.{AreFindings, ArePlaced}
 use Rattle.rn_assemble.specs.inside.Checked.{AreExpanded}
 use Rattle.rn_assemble.specs.inside.Views.{modules_view, names_of}
 use Rattle.rn_assemble.proofs.Answering.ExpandedModules.{modules_expanded}
@@ -25,4 +25,10 @@ pub returns-clause-findings : goal.returns-clause-findings
 returns-clause-findings c =
     let here : goal.After-segments-2-1 = assumption in
     let modules = modules_view c.args.modules.items in
-    subst (λ ns. AreFindings modules ns c.in_ok-findings.field-0.items) (sym c.in_ok-names_of_keys.ensures) (c.in_ok-findings.ensures modules (expanded here))
+    subst (λ ns. AreFindings modules ns c.in_ok-findings.field-0.items) (sym c.in_ok-names_of_keys.ensures) (c.in_ok-findings.ensures.findings modules (expanded here))
+
+pub returns-clause-places : goal.returns-clause-places
+returns-clause-places c =
+    let here : goal.After-segments-2-1 = assumption in
+    let modules = modules_view c.args.modules.items in
+    subst (λ ns. ArePlaced modules ns c.in_ok-findings.field-0.items) (sym c.in_ok-names_of_keys.ensures) (c.in_ok-findings.ensures.places modules (expanded here))

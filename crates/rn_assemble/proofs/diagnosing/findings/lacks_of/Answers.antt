@@ -37,14 +37,17 @@ loop-number-preserved c = λ modules names cs rows segments.
     elim c.if-has_own.branch [
       | then-has_own+in_ok-push_lacks w ↦
           subst (λ (ls : List Lack). AreLacks modules names x (key + 1) ls) (sym (ap (λ v. v.items) w.found-is))
-          (lacks_more modules names x key found before _ (w.in_ok-push_lacks.ensures modules (key_at names key) cs row_is segments))
+          (lacks_more modules names x key found before cs row segments row_is _ (w.in_ok-push_lacks.ensures modules (key_at names key) cs row_is segments))
       | else-has_own w ↦
           subst (λ (ls : List Lack). AreLacks modules names x (key + 1) ls) (sym (ap (λ v. v.items) w.found-is))
           (lacks_passed modules names x key found before (λ b there lack. false≢true (sym w.if-has_own.false ∙ c.has_own.ensures b there (overrides_same modules (key_at names key) row row_is b ∙ lack.0))))
     ]
 
-pub returns : goal.returns
-returns c = λ modules names cs rows segments.
+pub returns-clause-in_order : goal.returns-clause-in_order
+returns-clause-in_order c = c.in_ok-put_in_order.ensures.in_order
+
+pub returns-clause-lacks : goal.returns-clause-lacks
+returns-clause-lacks c = λ modules names cs rows segments.
     let x = c.args.segments.now in
     let bound = length c.args.rows.now.rows.items in
     let all : c.loop-number.number ≡ bound = omega (arith, c.loop-number.auto.number-end, c.loop-number-test.false, c.len-number-end.ensures) in

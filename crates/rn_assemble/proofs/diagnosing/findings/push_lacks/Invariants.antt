@@ -5,4 +5,4 @@ use Rattle.rn_assemble.specs.inside.Runs.{IsLackByPieces}
 use Rattle.rn_assemble.proofs.diagnosing.findings.push_lacks.Given as goal
 
 abbrev pub invariant-loop-include : goal.invariant-loop-include
-invariant-loop-include l = AddsLacks (IsLackByPieces l.row l.pieces) l.key.0 (take l.include-index l.include-items) l.fn.found.items l.found.items
+invariant-loop-include l = AddsLacks (IsLackByPieces l.row l.pieces) l.row l.key.0 (take l.include-index l.include-items) l.fn.found.items l.found.items

@@ -1,17 +1,21 @@
 -- What one key more has by both methods.
-use Rattle.std.proofs.Common.{◌≡◌, ◌+◌, ◌<◌, List, suc, length, sym, ap, ◌∙◌, subst, arith}
+use Rattle.std.proofs.Common.{◌≡◌, ◌+◌, ◌<◌, List, suc, length, refl, sym, ap, ◌∙◌, subst, arith}
 use Rattle.rn_syntax.specs.declared.tree.Method.TheVariants as m
 use Rattle.std.specs.Prelude.{Some}
 use Rattle.rn_assemble.specs.Components.{set_components}
+use Rattle.rn_assemble.specs.Diagnosed.{IsDefinition}
 use Rattle.rn_assemble.specs.Refusal.{mixed_methods}
 use Rattle.rn_assemble.specs.declared.diagnosing.findings.Finding.{Finding}
 use Rattle.rn_assemble.specs.inside.Diagnosing.{AddsBelow, meets}
 use Rattle.rn_assemble.specs.inside.Keyed.{key_at}
 use Rattle.rn_assemble.proofs.Diagnoses.CountedMethods.{counted_live, counted_mixed, mixed_counted}
+use Rattle.rn_assemble.proofs.Diagnoses.FoundPlaces.{found_definition}
 use Rattle.rn_assemble.proofs.Diagnoses.KeyFindings.{all_keys, found_more, mixed_kind, none_below, none_more}
 use Rattle.rn_assemble.proofs.Diagnoses.KnownSegments.{known_slice}
 use Rattle.rn_assemble.proofs.Diagnoses.Lacks.{key_is}
 use Rattle.rn_assemble.proofs.Diagnoses.Occurrences.{occurs_within}
+use Rattle.rn_assemble.proofs.Diagnoses.RefusalOrder.{key_rises}
+use Rattle.rn_assemble.proofs.KeyFaults.KnownRows.{row_of}
 use Rattle.rn_assemble.proofs.diagnosing.findings.push_mixed.Goals as goal
 use Rattle.rn_assemble.proofs.diagnosing.findings.push_mixed.Goals.{then-not-is_empty+then-not-is_empty-2+in_ok-push, else-not-is_empty, else-not-is_empty-via-then-not-is_empty+else-not-is_empty-2, else-not-is_empty-via-else-not-is_empty}
 
@@ -68,7 +72,13 @@ loop-number-preserved c = λ modules names expanded.
       | then-not-is_empty+then-not-is_empty-2+in_ok-push w ↦
           let some : 0 < length choices = grind (arith, w.if-not-is_empty.true, c.is_empty.ensures, c.in_ok-choices.choices.ok) in
           let other : 0 < length interleaves = grind (arith, w.if-not-is_empty-2.true, w.is_empty-then-not-is_empty.ensures, c.in_ok-interleaves.interleaves.ok) in
-          found_more modules names mixed_methods n old found inv _ (ap mixed_methods (key_is names n)) (mixed_counted key cs (length choices) (length interleaves) a b some other) c.if-not-is_empty.found.items
+          let row = c.row-row.result.now in
+          let row_is = row_of modules names c.args.rows.now expanded.rows_are n (omega (arith, c.loop-number-test.true, c.len-number-end.ensures)) row c.row-row.ensures in
+          let choice = found_definition modules key row row_is m.Choice c.deref.result.now choices c.in_ok-choices.ensures 0 w.index.result.now some w.index.ensures w.index-row-index.result w.index-row-index.is w.of.result w.of.ensures in
+          let interleave = found_definition modules key row row_is m.Interleave c.deref-in-loop-number.result.now interleaves c.in_ok-interleaves.ensures 0 w.index-then-not-is_empty-2.result.now other w.index-then-not-is_empty-2.ensures w.index-row-index-then-not-is_empty-2.result w.index-row-index-then-not-is_empty-2.is w.of-then-not-is_empty-2.result w.of-then-not-is_empty-2.ensures in
+          found_more modules names mixed_methods n old found inv _ (ap mixed_methods (key_is names n)) (mixed_counted key cs (length choices) (length interleaves) a b some other)
+          (λ k l. key_rises names expanded.in_order k n l (omega (arith, c.loop-number-test.true, c.len-number-end.ensures, expanded.rows_are.size)))
+          (subst (λ k. IsDefinition modules w.of.result k m.Choice × IsDefinition modules w.of-then-not-is_empty-2.result k m.Interleave) (sym (key_is names n)) (choice, interleave)) c.if-not-is_empty.found.items
           (ap (λ v. v.items) w.found-is ∙ w.in_ok-push.ensures.items)
       | else-not-is_empty w ↦
           subst (λ (fs : List Finding). AddsBelow modules names mixed_methods (n + 1) old fs) (sym (ap (λ v. v.items) w.found-is))
@@ -83,4 +93,4 @@ loop-number-preserved c = λ modules names expanded.
 pub returns : goal.returns
 returns c = λ modules names expanded.
     let all : c.loop-number.number ≡ suc (length names) = omega (arith, c.loop-number.auto.number-end, c.loop-number-test.false, c.len-number-end.ensures, expanded.rows_are.size) in
-    all_keys modules names mixed_methods 7 (mixed_kind modules names c.args.segments.now expanded.rows_are.names_are expanded.segments_are) c.loop-number.number all c.args.found.now.items c.loop-number.found.items (c.loop-number.invariant modules names expanded)
+    all_keys modules names mixed_methods 7 (mixed_kind modules names c.args.segments.now expanded.rows_are.names_are expanded.segments_are) (λ k. refl) c.loop-number.number all c.args.found.now.items c.loop-number.found.items (c.loop-number.invariant modules names expanded)

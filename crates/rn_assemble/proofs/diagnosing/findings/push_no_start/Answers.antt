@@ -1,5 +1,5 @@
 -- The start has components where it has pieces.
-use Rattle.std.proofs.Common.{◌≡◌, ◌<◌, List, length, refl, sym, ap, ◌∙◌, subst, arith}
+use Rattle.std.proofs.Common.{◌≡◌, ◌<◌, List, length, sym, ap, ◌∙◌, subst, arith}
 use Rattle.rn_assemble.specs.Components.{set_components, start_key}
 use Rattle.rn_assemble.specs.declared.diagnosing.findings.Finding.{Finding}
 use Rattle.rn_assemble.specs.inside.Diagnosing.{AddsRank}
@@ -21,7 +21,7 @@ returns c = λ modules names expanded.
     elim c.if-is_empty.branch [
       | then-is_empty+in_ok-push w ↦
           let none : length ps ≡ 0 = grind (arith, w.if-is_empty.true, c.is_empty.ensures, c.live_pieces.new.pieces.ok) in
-          start_missing modules names old c.if-is_empty.found.items _ refl (key_missing modules list start_key row cs ps are none) (ap (λ v. v.items) w.found-is ∙ w.in_ok-push.ensures.items)
+          start_missing modules names old c.if-is_empty.found.items (key_missing modules list start_key row cs ps are none) (ap (λ v. v.items) w.found-is ∙ w.in_ok-push.ensures.items)
       | else-is_empty w ↦
           let some : 0 < length ps = grind (arith, w.if-is_empty.false, c.is_empty.ensures, c.live_pieces.new.pieces.ok) in
           subst (λ (fs : List Finding). AddsRank modules names 8 old fs) (sym (ap (λ v. v.items) w.found-is)) (start_there modules names old (key_there modules list start_key row cs ps are some))

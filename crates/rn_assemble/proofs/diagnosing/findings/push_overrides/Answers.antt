@@ -19,5 +19,5 @@ pub returns : goal.returns
 returns c = λ modules names expanded.
     let ls = c.in_ok-lacks.lacks.items in
     let all = take_all c.loop-lack.lack-index c.deref-lack-items.result.now c.loop-lack-test.false ∙ c.deref-lack-items.ensures.value in
-    lacks_said modules names c.args.segments.now c.args.rows.now expanded _ expanded.rows_are.size ls (c.in_ok-lacks.ensures modules names _ expanded.rows_are expanded.segments_are) c.args.found.now.items c.loop-lack.found.items
+    lacks_said modules names c.args.segments.now c.args.rows.now expanded _ expanded.rows_are.size ls (c.in_ok-lacks.ensures.lacks modules names _ expanded.rows_are expanded.segments_are) c.in_ok-lacks.ensures.in_order c.args.found.now.items c.loop-lack.found.items
     (c.loop-lack.invariant ∙ ap (λ (ms : List Lack). c.args.found.now.items ++ map lack_finding ms) all)
