@@ -66,7 +66,6 @@ c.start = empty
 @~~b
 start |= c-2.start 
 
-
 ====
 @a
 include 'b' { start = external 'c' }
