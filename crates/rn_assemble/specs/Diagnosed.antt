@@ -10,12 +10,13 @@ use Rattle.rn_assemble.specs.Combine.{IsMixed, IsPlainTwice}
 use Rattle.rn_assemble.specs.Components.{Key, NamedModule, has_key, name_key, set_components, start_key}
 use Rattle.rn_assemble.specs.Least.{key_cmp}
 use Rattle.rn_assemble.specs.Refusal.{Refusal, override, plain_twice, mixed_methods, no_start, undefined, rank, Lacks, grammar_of}
-use Rattle.rn_assemble.specs.Written.{WrittenComponent, Inclusion, inclusions_at, written_at}
+use Rattle.rn_assemble.specs.Written.{WrittenComponent, Inclusion, inclusions_at, referred, written_at}
 use Rattle.rn_assemble.specs.declared.diagnosing.diagnosis.Diagnosis.{Diagnosis}
 use Rattle.rn_assemble.specs.declared.diagnosing.findings.Finding.{Finding}
 use Rattle.rn_assemble.specs.declared.diagnosing.findings.Finding.TheVariants as f
 use Rattle.rn_assemble.specs.declared.diagnosing.places.ComponentPlace.{ComponentPlace}
 use Rattle.rn_assemble.specs.declared.diagnosing.places.IncludePlace.{IncludePlace}
+use Rattle.rn_assemble.specs.declared.diagnosing.places.ReferencePlace.{ReferencePlace}
 
 -- the key of a number, where these are the names of the keys: the start is number 0, and has no name
 abbrev pub key_numbered : List Text → ℕ → Key
@@ -81,13 +82,19 @@ pub record IsOwnDefinition (modules : List NamedModule) (include : IncludePlace)
   pub at : slice_get (written_at modules p.module.0) p.number ≡ Some definition
   pub key_is : definition.key ≡ k
 
--- the definitions and the include of a finding are those that it speaks of
+-- the reference of that number in the definition is to the name
+pub record IsReference (modules : List NamedModule) (r : ReferencePlace) (x : Text) : Type 0 where
+  pub definition : WrittenComponent
+  pub at : slice_get (written_at modules r.component.module.0) r.component.number ≡ Some definition
+  pub reference_is : slice_get (referred definition.pattern) r.number ≡ Some x
+
+-- the definitions, the include and the reference of a finding are those that it speaks of
 abbrev pub IsPlaced : List NamedModule → List Text → Finding → Type 0
 IsPlaced modules names (f.Override k component include) = IsOwnDefinition modules include component (key_numbered names k.0)
 IsPlaced modules names (f.PlainTwice k first second parting) = IsDefinition modules first (key_numbered names k.0) methods.Plain × IsDefinition modules second (key_numbered names k.0) methods.Plain
 IsPlaced modules names (f.MixedMethods k choice interleave) = IsDefinition modules choice (key_numbered names k.0) methods.Choice × IsDefinition modules interleave (key_numbered names k.0) methods.Interleave
 IsPlaced modules names f.NoStart = ⊤
-IsPlaced modules names (f.Undefined x reference) = ⊤
+IsPlaced modules names (f.Undefined x reference) = IsReference modules reference x.now
 
 -- ---- all of them
 

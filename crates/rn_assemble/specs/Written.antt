@@ -5,7 +5,7 @@ use Rattle.std.specs.Option.{option_map_or}
 use Rattle.rn_text.specs.Texts.{Text}
 use Rattle.rn_syntax.specs.declared.tree.Method.{Method}
 use Rattle.rn_syntax.specs.Tree as t
-use Rattle.rn_syntax.specs.Tree.{Item, Items, Pattern}
+use Rattle.rn_syntax.specs.Tree.{Item, Items, Pattern, Patterns}
 use Rattle.rn_assemble.specs.Components.{Key, start_key, name_key, NamedModule}
 
 -- a component as it is written
@@ -48,6 +48,27 @@ module _ (modules : List NamedModule) where
     pub inclusions : ℕ → Items → List Inclusion
     inclusions n t.no_items = []
     inclusions n (t.item x xs) = item_inclusions n x ++ inclusions (n + length (item_written_components x)) xs
+
+-- the names that a pattern refers to, in the order of the text, each as often as it stands there
+abbrev mutual
+  pub referred : Pattern → List Text
+  referred (t.element c p) = referred p
+  referred (t.attribute c p) = referred p
+  referred (t.list p) = referred p
+  referred (t.mixed p) = referred p
+  referred t.empty = []
+  referred t.not_allowed = []
+  referred t.text = []
+  referred (t.ref x) = x ∷ []
+  referred (t.value d s) = []
+  referred (t.datum d ps) = []
+  referred (t.datum_but d ps i p) = referred p
+  referred (t.repeated s p) = referred p
+  referred (t.chain o ps) = all_referred ps
+
+  pub all_referred : Patterns → List Text
+  all_referred t.no_patterns = []
+  all_referred (t.pattern p ps) = referred p ++ all_referred ps
 
 -- the components of the module at a place
 abbrev pub written_at : List NamedModule → ℕ → List WrittenComponent

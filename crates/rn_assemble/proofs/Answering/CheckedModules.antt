@@ -1,6 +1,5 @@
 -- Modules whose includes were followed: what is found of their components, in the order of the refusals.
-use Rattle.std.proofs.Common.{◌≡◌, ℕ, ◌<◌, List, [], length, map, Result, sym, ap, ◌∙◌, subst}
-use Rattle.std.specs.Prelude.{◌↔◌, flat_map, MatchResult, Contains}
+use Rattle.std.proofs.Common.{◌≡◌, ◌↔◌, ℕ, ◌<◌, List, [], length, map, flat_map, Result, MatchResult, Contains, sym, ap, ◌∙◌, subst}
 use Rattle.std.specs.List.{AllByRecursion}
 use Rattle.std.specs.List.Sorted.{IsStrictlySortedBy}
 use Rattle.std.proofs.lemmas.List.Folds.{flat_map-map}

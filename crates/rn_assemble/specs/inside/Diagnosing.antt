@@ -1,5 +1,5 @@
 -- What stands against a set, as it is found: the components of a key in the segments that have them.
-use Rattle.std.specs.Prelude.{ℕ, ◌<◌, ◌≤◌, ◌≡◌, ◌+◌, ◌⊎◌, Bool, true, List, [], ◌∷◌, ◌++◌, length, count_by, slice_get, slice_range, sum_by, Option, Some, None, Contains}
+use Rattle.std.specs.Prelude.{ℕ, ◌<◌, ◌≤◌, ◌≡◌, ◌+◌, ◌⊎◌, Bool, true, List, [], ◌∷◌, ◌++◌, length, map, count_by, slice_get, slice_range, sum_by, Option, Some, None, Contains}
 use Rattle.std.specs.List.{AllByRecursion}
 use Rattle.std.specs.List.Sorted.{IsStrictlySortedBy}
 use Rattle.std.specs.Ordering.{nat_cmp, ordering_then}
@@ -7,9 +7,10 @@ use Rattle.std.specs.declared.cmp.Ordering.{Ordering}
 use Rattle.rn_syntax.specs.declared.tree.Method.{Method}
 use Rattle.rn_text.specs.Texts.{Text, text_cmp}
 use Rattle.rn_pattern.specs.References.{IsUndefined}
+use Rattle.rn_pattern.specs.declared.references.Reach.{Reach}
 use Rattle.rn_assemble.specs.Combine.{joined_grammar}
 use Rattle.rn_assemble.specs.Components.{Component, Key, NamedModule}
-use Rattle.rn_assemble.specs.Diagnosed.{AreFindingsInOrder, ArePlaced, AreTrue, IsOwnDefinition, IsTrueFor, finding_refusal}
+use Rattle.rn_assemble.specs.Diagnosed.{AreFindingsInOrder, ArePlaced, AreTrue, IsOwnDefinition, IsReference, IsTrueFor, finding_refusal}
 use Rattle.rn_assemble.specs.Refusal.{Refusal, rank}
 use Rattle.rn_assemble.specs.declared.diagnosing.findings.Finding.{Finding}
 use Rattle.rn_assemble.specs.declared.diagnosing.findings.Finding.TheVariants as f
@@ -27,7 +28,7 @@ use Rattle.rn_assemble.specs.declared.reading.keys.KeyId.{KeyId}
 use Rattle.rn_assemble.specs.inside.Checked.{AreExpanded}
 use Rattle.rn_assemble.specs.inside.Keyed.{key_at}
 use Rattle.rn_assemble.specs.inside.Methods.{is_method}
-use Rattle.rn_assemble.specs.inside.Referred.{IsMarkedName}
+use Rattle.rn_assemble.specs.inside.Referred.{IsMarkedName, references_at}
 use Rattle.rn_assemble.specs.inside.Segments.{IsLackOf}
 
 -- the place of a component
@@ -174,10 +175,21 @@ lack_finding l = f.Override l.key l.component l.include
 
 -- ---- undefined names
 
--- those of the texts were added that are no marked names: each at least once, and no other
-pub record AddsUnmarked (names : List Text) (marks : List Bool) (xs : List Text) (old new : List UndefinedName) : Type 0 where
+-- the name's reference is one of a component of the row
+pub record IsReferenceIn (row : List code.WrittenComponent) (u : UndefinedName) : Type 0 where
+  pub component : code.WrittenComponent
+  pub among : Contains row component
+  pub component_is : u.reference.component ≡ place_of component
+  pub at : slice_get (map (λ (r : Text × Reach). r.0) (references_at component)) u.reference.number ≡ Some u.name.now
+
+-- each name has its reference in the modules
+abbrev pub AreReferred : List NamedModule → List UndefinedName → Type 0
+AreReferred modules us = AllByRecursion (λ (u : UndefinedName). IsReference modules u.reference u.name.now) us
+
+-- those of the texts were added that are no marked names: each at least once, and no other; each has its reference in the row
+pub record AddsUnmarked (row : List code.WrittenComponent) (names : List Text) (marks : List Bool) (xs : List Text) (old new : List UndefinedName) : Type 0 where
   pub kept : (u : UndefinedName) → Contains old u → Contains new u
-  pub each : (u : UndefinedName) → Contains new u → Contains old u ⊎ (Contains xs u.name.now × ¬ IsMarkedName names marks u.name.now)
+  pub each : (u : UndefinedName) → Contains new u → Contains old u ⊎ (Contains xs u.name.now × (¬ IsMarkedName names marks u.name.now) × IsReferenceIn row u)
   pub all : (x : Text) → Contains xs x → ¬ IsMarkedName names marks x → (u : UndefinedName) × Contains new u × (u.name.now ≡ x)
 
 -- the order of undefined names

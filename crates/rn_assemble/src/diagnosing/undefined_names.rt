@@ -1,9 +1,11 @@
 // Names that are referred to and not defined, with their first references (RELAX NG 2001, 4.18).
-ghost use Rattle.std.specs.Prelude.{◌≡◌, IfOk, length};
+ghost use Rattle.std.specs.Prelude.{◌≡◌, ◌∷◌, [], IfOk, List, length};
 ghost use Rattle.rn_pattern.specs.declared.references.Reach.TheVariants.{Everywhere};
-ghost use Rattle.rn_assemble.specs.inside.Diagnosing.{AddsUnmarked, AreUndefined, KeepsNames};
+ghost use Rattle.rn_assemble.specs.Components.{NamedModule};
+ghost use Rattle.rn_assemble.specs.inside.Diagnosing.{AddsUnmarked, AreReferred, AreUndefined, KeepsNames};
 ghost use Rattle.rn_assemble.specs.inside.Pieces.{AreKnownBy, OfKeys};
 ghost use Rattle.rn_assemble.specs.inside.Referred.{marked_references, names_within, references_at};
+ghost use Rattle.rn_assemble.specs.inside.Rows.{AreRows};
 ghost use Rattle.rn_assemble.specs.inside.Views.{names_of};
 
 use super::places::{ComponentPlace, ReferencePlace};
@@ -30,8 +32,11 @@ pub(crate) fn undefined_names<'s>(
     segments: &Segments<'_, '_, '_>,
 ) -> Result<Vec<UndefinedName<'s>>, AllocError>
     requires { AreKnownBy (names_of keys.now) rows.now segments.now }
-    ensures { OfKeys keys.now rows.now segments.now (λ names cs. IfOk result (λ found.
+    ensures names { OfKeys keys.now rows.now segments.now (λ names cs. IfOk result (λ found.
         AreUndefined cs found.items)) }
+    ensures places { (modules : List NamedModule)
+        → AreRows modules (names_of keys.now) rows.now.rows.items
+        → IfOk result (λ found. AreReferred modules found.items) }
 {
     let defined = defined_keys(alloc, rows, segments)?;
     let is_defined = marks_of(alloc, rows.len(), &defined)?;
@@ -66,7 +71,7 @@ fn push_undefined<'s>(
     found: &mut Vec<UndefinedName<'s>>,
 ) -> Result<(), AllocError>
     requires { length is_live.now ≡ length row.now }
-    ensures { IfOk result (λ _. AddsUnmarked (names_of keys.now) is_defined.now
+    ensures { IfOk result (λ _. AddsUnmarked row.now (names_of keys.now) is_defined.now
         (names_within Everywhere (marked_references is_live.now row.now))
         found.old.items found.new.items) }
 {
@@ -86,8 +91,9 @@ fn push_undefined_of<'s>(
     component: &WrittenComponent<'s>,
     found: &mut Vec<UndefinedName<'s>>,
 ) -> Result<(), AllocError>
-    ensures { IfOk result (λ _. AddsUnmarked (names_of keys.now) is_defined.now
-        (names_within Everywhere (references_at component.now)) found.old.items found.new.items) }
+    ensures { IfOk result (λ _. AddsUnmarked (component.now ∷ []) (names_of keys.now)
+        is_defined.now (names_within Everywhere (references_at component.now)) found.old.items
+        found.new.items) }
 {
     let mut references = Vec::new(alloc);
     refer(&component.body, Reach::OutsideElements, &mut references)?;

@@ -22,5 +22,5 @@ pub returns : goal.returns
 returns c = λ modules expanded.
     let us = c.in_ok-names.names.items in
     let all = take_all c.loop-undefined.undefined-index c.deref-undefined-items.result.now c.loop-undefined-test.false ∙ c.deref-undefined-items.ensures.value in
-    undefined_said modules (names_of c.args.keys.now) us (c.in_ok-names.ensures modules (set_components modules) expanded.in_order expanded.rows_are expanded.segments_are) c.args.found.now.items c.loop-undefined.found.items
+    undefined_said modules (names_of c.args.keys.now) us (c.in_ok-names.ensures.names modules (set_components modules) expanded.in_order expanded.rows_are expanded.segments_are) (c.in_ok-names.ensures.places modules expanded.rows_are) c.args.found.now.items c.loop-undefined.found.items
     (c.loop-undefined.invariant ∙ ap (λ (vs : List UndefinedName). c.args.found.now.items ++ map undefined_finding vs) all)

@@ -10,4 +10,4 @@ use Rattle.rn_assemble.proofs.diagnosing.undefined_names.push_undefined.Given as
 
 abbrev pub invariant-loop-index : goal.invariant-loop-index
 invariant-loop-index l = (done : List (Text × Reach)) × (done ++ marked_references (drop l.index l.is_live) (drop l.index l.row) ≡ marked_references l.is_live l.row)
-    × AddsUnmarked (names_of l.keys) l.is_defined (names_within Everywhere done) l.fn.found.items l.found.items
+    × AddsUnmarked l.row (names_of l.keys) l.is_defined (names_within Everywhere done) l.fn.found.items l.found.items
