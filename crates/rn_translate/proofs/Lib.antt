@@ -6,5 +6,6 @@ pub mod CutLiterals
 pub mod WrittenTokens
 pub mod TreeSteps
 pub mod AddedTerms
+pub mod MeantElements
 pub mod PrintedTerms
 pub mod NumberedNames

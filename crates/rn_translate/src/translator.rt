@@ -1,7 +1,10 @@
 // The walk over the elements of a document, which collects the terms of its compact text.
-ghost use Rattle.std.specs.Prelude.{◌≡◌, ◌<◌, ◌≤◌, ◌+◌, ◌-◌, ◌*◌, ◌^◌, true, List, IfOk, IsSome, OnOk, vec_len};
+ghost use Rattle.std.specs.Prelude.{◌≡◌, ◌==◌, ◌<◌, ◌≤◌, ◌+◌, ◌-◌, ◌*◌, ◌^◌, ◌++◌, true, false, if◌then◌else◌, nat_le, List, IfOk, IsSome, OnOk, vec_len};
 ghost use Rattle.rn_translate.specs.inside.Terms.{Term as MeantTerm};
-ghost use Rattle.rn_translate.specs.inside.Meanings.{Adds, is_parted, known, sign_terms, term_meant};
+ghost use Rattle.rn_translate.specs.inside.Layouts.{Written, begins, layout};
+ghost use Rattle.rn_translate.specs.inside.Translation.{before_child, behind_child, standing_of};
+ghost use Rattle.rn_translate.specs.inside.Meanings.{Adds, AddsInScope, class_meant, is_parted, known, layout_meant, sign_terms, term_meant};
+ghost use Rattle.rn_translate.specs.inside.ElementsMeant.{IsMeant};
 ghost use Rattle.rn_translate.specs.inside.TermNames.{has_names};
 ghost use Rattle.rn_translate.specs.inside.Walks.{content_at};
 
@@ -275,7 +278,15 @@ impl<'d, 'a> Translator<'d, 'a> {
         index: usize,
         child: &'d XmlElement<'a>,
         kind: Kind,
-    ) -> Result<Level, RngFault> {
+    ) -> Result<Level, RngFault>
+        ensures added { (e : Written) → IfOk result (λ level. IsMeant self.new child.now level.«open» e
+            → AddsInScope self.old self.new (before_child (layout_meant around.layout).class
+            (layout_meant around.layout).separator around.begun.count ++ begins e e.kind)) }
+        ensures layout { (e : Written) → IfOk result (λ level. IsMeant self.new child.now level.«open» e
+            → layout_meant level.layout ≡ layout e e.kind) }
+        ensures behind { IfOk result (λ level. sign_terms level.behind
+            ≡ behind_child (layout_meant around.layout).class around.begun.count) }
+    {
         let before = around.begun.count;
         if let Some(refusal) = around
             .open
@@ -301,7 +312,12 @@ impl<'d, 'a> Translator<'d, 'a> {
         kind: Kind,
         around: Context,
         place: Place,
-    ) -> Result<Level, RngFault> {
+    ) -> Result<Level, RngFault>
+        ensures added { (e : Written) → IfOk result (λ level. IsMeant self.new element.now level.«open» e
+            → AddsInScope self.old self.new (begins e e.kind)) }
+        ensures layout { (e : Written) → IfOk result (λ level. IsMeant self.new element.now level.«open» e
+            → layout_meant level.layout ≡ layout e e.kind) }
+    {
         let open = self.opened(index, element, kind, around, place)?;
         let layout = self.write_front(element, open)?;
         Ok(Level {
@@ -316,18 +332,31 @@ impl<'d, 'a> Translator<'d, 'a> {
     }
 
     /// Ends an element, behind its children.
-    fn end(&mut self, level: Level) -> Result<(), RngFault> {
-        let at = level.open.at;
-        self.put_sign(at, level.layout.inner)?;
-        self.put_sign(at, level.layout.closing)?;
-        self.put_sign(at, level.layout.outer)?;
-        self.put_sign(at, level.behind)?;
+    fn end(&mut self, level: Level) -> Result<(), RngFault>
+        ensures { OnOk result (AddsInScope self.old self.new
+            ((layout_meant level.layout).behind ++ sign_terms level.behind)) }
+    {
+        self.put_end(level)?;
         self.leave_scope(level.open.index);
         Ok(())
     }
 
+    /// Writes what comes behind the children of an element.
+    fn put_end(&mut self, level: Level) -> Result<(), RngFault>
+        ensures { OnOk result (Adds self.old self.new
+            ((layout_meant level.layout).behind ++ sign_terms level.behind)) }
+    {
+        let at = level.open.at;
+        self.put_sign(at, level.layout.inner)?;
+        self.put_sign(at, level.layout.closing)?;
+        self.put_sign(at, level.layout.outer)?;
+        self.put_sign(at, level.behind)
+    }
+
     /// The declarations of an element mean nothing from here on.
-    fn leave_scope(&mut self, index: usize) {
+    fn leave_scope(&mut self, index: usize)
+        ensures { self.new ≡ record self.old { scopes = self.new.scopes } }
+    {
         let document = self.document;
         if let Some(element) = document.elements.get(index) {
             self.scopes.leave(document.declarations_of(element));
@@ -398,7 +427,9 @@ impl<'d, 'a> Translator<'d, 'a> {
     }
 
     /// The declarations of an element mean something from here on.
-    fn enter_scope(&mut self, element: &XmlElement<'a>) -> Result<(), RngFault> {
+    fn enter_scope(&mut self, element: &XmlElement<'a>) -> Result<(), RngFault>
+        ensures { self.new ≡ record self.old { scopes = self.new.scopes } }
+    {
         let document = self.document;
         let rows = element.declarations;
         for index in rows.from..rows.to {
@@ -417,7 +448,9 @@ impl<'d, 'a> Translator<'d, 'a> {
         kind: Kind,
         around: Context,
         place: Place,
-    ) -> Result<Open, RngFault> {
+    ) -> Result<Open, RngFault>
+        ensures { self.new ≡ record self.old { scopes = self.new.scopes } }
+    {
         let holder = Holder {
             kind,
             role: place.role,
@@ -510,7 +543,14 @@ impl Open {
     }
 
     /// Where a child after so many others is.
-    fn place_inside(self, layout: Layout, before: usize) -> Place {
+    fn place_inside(self, layout: Layout, before: usize) -> Place
+        ensures standing { result.standing ≡ standing_of (class_meant layout.class)
+            layout.standing before }
+        ensures first { result.is_first ≡ (before == 0) }
+        ensures last { result.is_last ≡ nat_le self.children.count
+            (before + 1 + (if self.children.has_except then 1 else 0)) }
+        ensures root { result.is_root ≡ false }
+    {
         let excepts = usize::from(self.children.has_except);
         let begun = before.saturating_add(1);
         Place {

@@ -8,6 +8,7 @@ use Rattle.rn_xml.specs.declared.document.XmlDocument.{XmlDocument}
 use Rattle.rn_translate.specs.inside.SchemaElements.{value_of}
 use Rattle.rn_translate.specs.inside.Layouts.{Written}
 use Rattle.rn_translate.specs.inside.Meanings.{uri_meant}
+use Rattle.rn_translate.specs.inside.Walks.{content_at}
 use Rattle.rn_translate.specs.declared.translator.Open.{Open}
 use Rattle.rn_translate.specs.declared.translator.Translator.{Translator}
 
@@ -20,6 +21,7 @@ pub record IsMeant (t : Translator) (row : XmlElement) (o : Open) (e : Written) 
   pub kind : o.holder.kind ≡ e.kind
   pub named : o.holder.is_named ≡ is_some (value_of (codes "name") e.attributes)
   pub attributes : e.attributes ≡ attributes_at t.document.now row
+  pub text : e.text ≡ content_at t.document.now t.text o.index
   pub count : o.children.count ≡ e.count
   pub except : o.children.has_except ≡ e.has_except
   pub standing : o.place.standing ≡ e.place.standing
