@@ -8,3 +8,6 @@ pub mod TreeSteps
 pub mod AddedTerms
 pub mod PrintedTerms
 pub mod NumberedNames
+pub mod TrimmedTexts
+pub mod UriMeanings
+pub mod AttributeRows
