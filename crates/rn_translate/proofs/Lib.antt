@@ -9,3 +9,6 @@ pub mod AddedTerms
 pub mod MeantElements
 pub mod PrintedTerms
 pub mod NumberedNames
+pub mod TrimmedTexts
+pub mod UriMeanings
+pub mod AttributeRows

@@ -4,6 +4,7 @@ pub mod Meanings
 pub mod SignTokens
 pub mod DraftTokens
 pub mod Walks
+pub mod UriTables
 pub mod ElementsMeant
 pub mod PrintedTerms
 pub mod Terms

@@ -1,7 +1,11 @@
 // The parts of a document that a schema is made of: its elements of RELAX NG, attributes and texts.
-ghost use Rattle.std.specs.Prelude.{◌≡◌, ◌+◌, ◌<◌, ◌^◌, bytes_eq};
-ghost use Rattle.rn_xml.specs.DocumentTrees.{uri_at_index};
-ghost use Rattle.rn_translate.specs.inside.SchemaElements.{rng_uri};
+ghost use Rattle.std.specs.Prelude.{◌≡◌, ◌+◌, ◌<◌, ◌^◌, ℕ, bytes_eq, option_map, string_bytes};
+ghost use Rattle.rn_text.specs.Texts.{is_white};
+ghost use Rattle.rn_xml.specs.Infoset.{Nodes};
+ghost use Rattle.rn_xml.specs.DocumentTrees.{AreChildren, name_of, uri_at_index};
+ghost use Rattle.rn_translate.specs.inside.SchemaElements.{count_of, has_except, kind_of, rng_uri, trimmed, value_of};
+ghost use Rattle.rn_translate.specs.inside.ElementsMeant.{attributes_at};
+ghost use Rattle.rn_translate.specs.inside.Walks.{AreNested};
 
 use crate::kinds::{Kind, Role};
 use rn_xml::{XmlAttribute, XmlDocument, XmlElement};
@@ -20,7 +24,9 @@ pub(crate) fn uri_at<'d>(document: &'d XmlDocument<'_>, index: usize) -> &'d str
 }
 
 /// What an element is by itself; `None` for one of the namespace of RELAX NG that has no name of RELAX NG.
-pub(crate) fn kind_of(document: &XmlDocument<'_>, element: &XmlElement<'_>) -> Option<Kind> {
+pub(crate) fn kind_of(document: &XmlDocument<'_>, element: &XmlElement<'_>) -> Option<Kind>
+    ensures { result ≡ kind_of (name_of document.now element.now.name) }
+{
     if is_rng(document, element.name.uri) {
         return Kind::of_name(element.name.local);
     }
@@ -72,7 +78,13 @@ pub(crate) fn behind(index: usize, element: &XmlElement<'_>) -> usize
 }
 
 /// The children of the element of this index, which are before the element `end`.
-pub(crate) fn children_of(document: &XmlDocument<'_>, index: usize, end: usize) -> Children {
+pub(crate) fn children_of(document: &XmlDocument<'_>, index: usize, end: usize) -> Children
+    ensures count { (t after : ℕ) (k : Nodes) → AreNested document.now
+        → AreChildren document.now index (index + 1) t k end after → result.count ≡ count_of k }
+    ensures except { (t after : ℕ) (k : Nodes) → AreNested document.now
+        → AreChildren document.now index (index + 1) t k end after
+        → result.has_except ≡ has_except k }
+{
     let mut children = Children {
         count: 0,
         has_except: false,
@@ -94,17 +106,24 @@ pub(crate) fn attribute<'d, 'a>(
     document: &'d XmlDocument<'a>,
     element: &XmlElement<'a>,
     local: &str,
-) -> Option<&'d XmlAttribute<'a>> {
+) -> Option<&'d XmlAttribute<'a>>
+    ensures { option_map (λ found. string_bytes found.now.value) result
+        ≡ value_of local.now (attributes_at document.now element.now) }
+{
     document.attributes_of(element).iter().find(|it| it.name.local == local
         && uri_at(document, it.name.uri).is_empty())
 }
 
 /// A text without the white space at its ends (4.2).
-pub(crate) fn trimmed(text: &str) -> &str {
+pub(crate) fn trimmed(text: &str) -> &str
+    ensures { result.now ≡ trimmed text.now }
+{
     text.trim_matches(is_white_space)
 }
 
 /// Whether a character is white space of XML (XML 1.0, production 3).
-pub(crate) fn is_white_space(c: char) -> bool {
+pub(crate) fn is_white_space(c: char) -> bool
+    ensures { result ≡ is_white c }
+{
     matches!(c, ' ' | '\t' | '\n' | '\r')
 }

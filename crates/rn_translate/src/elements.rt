@@ -1,7 +1,7 @@
 // What each element of RELAX NG comes to in the compact text (compact syntax, section 3).
-ghost use Rattle.std.specs.Prelude.{◌≡◌, ◌∷◌, ◌++◌, [], codes, IfOk, OnOk};
+ghost use Rattle.std.specs.Prelude.{◌≡◌, ◌∷◌, ◌++◌, [], codes, unwrap_or, IfOk, OnOk};
 ghost use Rattle.rn_translate.specs.inside.Terms.{keyword as keyword_term, close_brace, identifier, open_brace, open_parenthesis, close_parenthesis, symbol};
-ghost use Rattle.rn_translate.specs.inside.SchemaElements.{name_in};
+ghost use Rattle.rn_translate.specs.inside.SchemaElements.{name_in, value_of};
 ghost use Rattle.rn_translate.specs.inside.Layouts.{Written, around, begins, begins_operands, if_so, is_tight, layout, operands, then_behind};
 ghost use Rattle.rn_translate.specs.inside.Meanings.{Adds, is_parted, layout_meant, sign_terms};
 ghost use Rattle.rn_translate.specs.inside.ElementsMeant.{IsMeant, attributes_at};
@@ -18,7 +18,10 @@ use rn_xml::XmlElement;
 
 impl<'d, 'a> Translator<'d, 'a> {
     /// The value of an attribute, and its place; nothing at the element where it has no such attribute.
-    pub fn value(&self, element: &'d XmlElement<'a>, local: &str) -> (usize, &'d str) {
+    pub fn value(&self, element: &'d XmlElement<'a>, local: &str) -> (usize, &'d str)
+        ensures { result.1.now ≡ unwrap_or
+            (value_of local.now (attributes_at self.now.document.now element.now)) [] }
+    {
         match attribute(self.document, element, local) {
             Some(found) => (found.value_at, found.value.as_str()),
             None => (element.at, ""),

@@ -1,4 +1,6 @@
 // The elements of RELAX NG, and where each may be (RELAX NG 2001, section 3).
+ghost use Rattle.std.specs.Prelude.{◌≡◌};
+ghost use Rattle.rn_translate.specs.inside.SchemaElements.{kind_in, kind_name, kinds};
 
 /// An element of RELAX NG, or one of another vocabulary.
 #[derive(Clone, Copy, Debug, PartialEq, Eq)]
@@ -97,12 +99,16 @@ static ELEMENTS: [Kind; 28] = [
 
 impl Kind {
     /// The element of RELAX NG that has this local name.
-    pub fn of_name(local: &str) -> Option<Kind> {
+    pub fn of_name(local: &str) -> Option<Kind>
+        ensures { result ≡ kind_in kinds local.now }
+    {
         ELEMENTS.iter().find(|kind| kind.name() == local).copied()
     }
 
     /// The local name of the element.
-    pub fn name(self) -> &'static str {
+    pub fn name(self) -> &'static str
+        ensures { result.now ≡ kind_name self }
+    {
         match self {
             Kind::Element => "element",
             Kind::Attribute => "attribute",

@@ -1,12 +1,14 @@
 // The walk over the elements of a document, which collects the terms of its compact text.
-ghost use Rattle.std.specs.Prelude.{◌≡◌, ◌==◌, ◌<◌, ◌≤◌, ◌+◌, ◌-◌, ◌*◌, ◌^◌, ◌++◌, true, false, if◌then◌else◌, nat_le, List, IfOk, IsSome, OnOk, vec_len};
-ghost use Rattle.rn_translate.specs.inside.Terms.{Term as MeantTerm};
+ghost use Rattle.std.specs.Prelude.{◌≡◌, ◌==◌, ◌<◌, ◌≤◌, ◌+◌, ◌-◌, ◌*◌, ◌^◌, ◌++◌, ℕ, true, false, if◌then◌else◌, nat_le, List, IfOk, IsSome, OnOk, Some, codes, vec_len};
+ghost use Rattle.rn_xml.specs.Infoset.{Nodes};
+ghost use Rattle.rn_translate.specs.inside.Terms.{Namespace, Term as MeantTerm};
+ghost use Rattle.rn_translate.specs.inside.SchemaElements.{bare_in, nearest, text_of, value_of};
 ghost use Rattle.rn_translate.specs.inside.Layouts.{Written, begins, layout};
 ghost use Rattle.rn_translate.specs.inside.Translation.{before_child, behind_child, standing_of};
-ghost use Rattle.rn_translate.specs.inside.Meanings.{Adds, AddsInScope, class_meant, is_parted, known, layout_meant, sign_terms, term_meant};
-ghost use Rattle.rn_translate.specs.inside.ElementsMeant.{IsMeant};
+ghost use Rattle.rn_translate.specs.inside.ElementsMeant.{IsMeant, KnowsUris, attributes_at};
+ghost use Rattle.rn_translate.specs.inside.Meanings.{Adds, AddsInScope, class_meant, is_parted, known, layout_meant, sign_terms, term_meant, uri_meant};
 ghost use Rattle.rn_translate.specs.inside.TermNames.{has_names};
-ghost use Rattle.rn_translate.specs.inside.Walks.{content_at};
+ghost use Rattle.rn_translate.specs.inside.Walks.{IsContent, content_at};
 
 use crate::content::{Holder, needed_attribute};
 use crate::document_parts::{Children, attribute, behind, children_of, kind_of, uri_at};
@@ -125,7 +127,9 @@ impl<'d, 'a> Translator<'d, 'a> {
         alloc: Global,
         source: &'d str,
         document: &'d XmlDocument<'a>,
-    ) -> Result<Translator<'d, 'a>, RngFault> {
+    ) -> Result<Translator<'d, 'a>, RngFault>
+        ensures { IfOk result (λ made. KnowsUris made) }
+    {
         let uris = Uris::of(alloc, document)?;
         let mut document_uris = Vec::new(alloc);
         for uri in &document.uris {
@@ -417,7 +421,9 @@ impl<'d, 'a> Translator<'d, 'a> {
 
     /// The text that an element begins with, and its place; where it has none, the given place.
     pub fn content(&self, index: usize, at: usize) -> (usize, &'d str)
-        ensures { result.1.now ≡ content_at self.now.document.now self.now.text index }
+        ensures at { result.1.now ≡ content_at self.now.document.now self.now.text index }
+        ensures text { (k : Nodes) (after : ℕ) → IsContent self.now.document.now index
+            self.now.text k after → result.1.now ≡ text_of k }
     {
         let document = self.document;
         match document.texts.get(self.text) {
@@ -476,7 +482,12 @@ impl<'d, 'a> Translator<'d, 'a> {
     }
 
     /// The namespace that names without a prefix are in, where they are written in what is open.
-    fn bare_in(&self, kind: Kind, around: Uri) -> Uri {
+    fn bare_in(&self, kind: Kind, around: Uri) -> Uri
+        ensures { (n m : Namespace) → KnowsUris self.now
+            → uri_meant self.now.uris self.now.default ≡ Some n
+            → uri_meant self.now.uris around ≡ Some m
+            → uri_meant self.now.uris result ≡ Some (bare_in n m kind) }
+    {
         match kind {
             Kind::Attribute => Uri::EMPTY,
             Kind::Element => self.default,
@@ -508,7 +519,12 @@ impl<'d, 'a> Translator<'d, 'a> {
     }
 
     /// The nearest `ns` of an element, where this one is inherited (4.9).
-    fn namespace_at(&self, element: &XmlElement<'a>, inherited: Uri) -> Uri {
+    fn namespace_at(&self, element: &XmlElement<'a>, inherited: Uri) -> Uri
+        ensures { (n : Namespace) → KnowsUris self.now
+            → uri_meant self.now.uris inherited ≡ Some n → uri_meant self.now.uris result
+            ≡ Some (nearest n (value_of (codes "ns")
+            (attributes_at self.now.document.now element.now))) }
+    {
         match attribute(self.document, element, "ns") {
             Some(ns) => self.uris.uri(ns.value.as_str()),
             None => inherited,
@@ -516,7 +532,12 @@ impl<'d, 'a> Translator<'d, 'a> {
     }
 
     /// The nearest `datatypeLibrary` of an element, where this one is inherited (4.3).
-    fn library_at(&self, element: &XmlElement<'a>, inherited: Uri) -> Uri {
+    fn library_at(&self, element: &XmlElement<'a>, inherited: Uri) -> Uri
+        ensures { (n : Namespace) → KnowsUris self.now
+            → uri_meant self.now.uris inherited ≡ Some n → uri_meant self.now.uris result
+            ≡ Some (nearest n (value_of (codes "datatypeLibrary")
+            (attributes_at self.now.document.now element.now))) }
+    {
         match attribute(self.document, element, "datatypeLibrary") {
             Some(library) => self.uris.uri(library.value.as_str()),
             None => inherited,

@@ -1,6 +1,9 @@
 // Namespaces and datatype libraries of a document.
-ghost use Rattle.std.specs.Prelude.{◌≡◌, ◌==◌};
+ghost use Rattle.std.specs.Prelude.{◌≡◌, ◌==◌, IfOk, OnOk, Some};
+ghost use Rattle.rn_translate.specs.inside.Terms.{uri as uri_namespace};
 ghost use Rattle.rn_translate.specs.inside.PrintedTerms.{uri_text};
+ghost use Rattle.rn_translate.specs.inside.UriTables.{AreIndexed, HasAdded, HasUri, HasUrisOf, IsTable, gives_uri};
+ghost use Rattle.rn_translate.specs.inside.Meanings.{uri_meant};
 
 use rn_xml::{XmlAttribute, XmlDocument};
 use std::alloc::{AllocError, Global};
@@ -49,7 +52,9 @@ pub(crate) struct Uris<'d> {
 
 impl<'d> Uris<'d> {
     /// The URIs that mean something by themselves.
-    fn new(alloc: Global) -> Result<Uris<'d>, AllocError> {
+    fn new(alloc: Global) -> Result<Uris<'d>, AllocError>
+        ensures { IfOk result (λ uris. IsTable uris) }
+    {
         let mut uris = Uris {
             texts: Vec::new(alloc),
             indices: BTreeMap::new(alloc),
@@ -62,7 +67,9 @@ impl<'d> Uris<'d> {
     }
 
     /// Adds a URI, if it isn't there yet.
-    fn add(&mut self, text: &'d str) -> Result<(), AllocError> {
+    fn add(&mut self, text: &'d str) -> Result<(), AllocError>
+        ensures { AreIndexed self.old → OnOk result (HasAdded self.old self.new text.entry) }
+    {
         if self.indices.get(text).is_some() {
             return Ok(());
         }
@@ -73,7 +80,10 @@ impl<'d> Uris<'d> {
     }
 
     /// All URIs that elements of a document can mean: its namespaces, and those that `ns` and `datatypeLibrary` give.
-    pub fn of(alloc: Global, document: &'d XmlDocument<'_>) -> Result<Uris<'d>, AllocError> {
+    pub fn of(alloc: Global, document: &'d XmlDocument<'_>) -> Result<Uris<'d>, AllocError>
+        ensures table { IfOk result (λ uris. IsTable uris) }
+        ensures has { IfOk result (λ uris. HasUrisOf uris document.now) }
+    {
         let mut uris = Uris::new(alloc)?;
         'namespaces: for uri in &document.uris {
             uris.add(uri.as_str())?;
@@ -94,7 +104,10 @@ impl<'d> Uris<'d> {
     }
 
     /// The URI with this text; the empty one where none has it.
-    pub fn uri(&self, text: &str) -> Uri {
+    pub fn uri(&self, text: &str) -> Uri
+        ensures { AreIndexed self.now → HasUri self.now text.now
+            → uri_meant self.now result ≡ Some (uri_namespace text.now) }
+    {
         match self.indices.get(text) {
             Some(index) => Uri { index: *index },
             None => Uri::EMPTY,
@@ -103,6 +116,8 @@ impl<'d> Uris<'d> {
 }
 
 /// Whether an attribute may give the URI of a namespace or a library.
-fn gives_uri(attribute: &XmlAttribute<'_>) -> bool {
+fn gives_uri(attribute: &XmlAttribute<'_>) -> bool
+    ensures { result ≡ gives_uri attribute.now.name.local.now }
+{
     matches!(attribute.name.local.as_bytes(), b"ns" | b"datatypeLibrary")
 }

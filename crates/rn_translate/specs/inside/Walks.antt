@@ -1,5 +1,5 @@
 -- The walk over the tables of a document, and the tree that they hold.
-use Rattle.std.specs.Prelude.{◌≡◌, ◌==◌, ℕ, ◌+◌, ◌<◌, [], Some, if◌then◌else◌, map, slice_get, string_bytes}
+use Rattle.std.specs.Prelude.{◌≡◌, ◌≢◌, ◌==◌, ℕ, ◌+◌, ◌<◌, [], Some, if◌then◌else◌, map, slice_get, string_bytes}
 use Rattle.std.specs.Option.{option_map_or}
 use Rattle.rn_xml.specs.Infoset.{Node, element, characters, Nodes, more_nodes}
 use Rattle.rn_xml.specs.TableRows.{rows_of}
@@ -40,3 +40,8 @@ pub record NextChild (d : XmlDocument) (parent e t : ℕ) (k : Nodes) (behind af
 -- the content of the text of this index, if it is in the element of that index
 abbrev pub content_at : XmlDocument → ℕ → ℕ → Text
 content_at d t e = option_map_or (λ (row : XmlText). if row.parent == e then string_bytes row.content else []) (slice_get d.texts.items t) []
+
+-- the children of the element of this index, which are no elements: from this text on, up to one that isn't in it
+pub record IsContent (d : XmlDocument) (e t : ℕ) (k : Nodes) (after : ℕ) : Type 0 where
+  pub children : AreChildren d e (e + 1) t k (e + 1) after
+  pub ends : (row : XmlText) → slice_get d.texts.items after ≡ Some row → row.parent ≢ e
