@@ -1,6 +1,8 @@
 -- Terms that are added one behind the other.
 use Rattle.std.proofs.Common.{◌≡◌, Bool, List, [], ◌++◌, refl, sym, ap, ◌∙◌, subst, append_assoc, append-nil, Some}
+use Rattle.std.specs.Prelude.{Result, OnOk}
 use Rattle.std.proofs.lemmas.List.{map-append}
+use Rattle.std.proofs.lemmas.Result.{on_ok_weaker}
 use Rattle.rn_translate.specs.inside.Terms.{Term}
 use Rattle.rn_translate.specs.inside.Layouts.{if_so}
 use Rattle.rn_translate.specs.declared.translator.Translator.{Translator}
@@ -19,3 +21,14 @@ adds_more a b c ts us h k = record {
 -- the same, where they are added if something is so
 pub adds_if : (a b : Translator) (p q : Bool) (ts : List Term) → p ≡ q → Adds a b (if_so p ts) → Adds a b (if_so q ts)
 adds_if a b p q ts e h = subst (λ r. Adds a b (if_so r ts)) e h
+
+-- other words for the same terms
+pub adds_equal : (a b : Translator) (ts us : List Term) → ts ≡ us → Adds a b ts → Adds a b us
+adds_equal a b ts us e h = subst (λ l. Adds a b l) e h
+
+pub ok_equal : {R E : Type 0} (r : Result R E) (a b : Translator) (ts us : List Term) → ts ≡ us → OnOk r (Adds a b ts) → OnOk r (Adds a b us)
+ok_equal r a b ts us e h = on_ok_weaker r (adds_equal a b ts us e) h
+
+-- the last call of several adds more
+pub ok_more : {R E : Type 0} (r : Result R E) (a b c : Translator) (ts us : List Term) → Adds a b ts → OnOk r (Adds b c us) → OnOk r (Adds a c (ts ++ us))
+ok_more r a b c ts us h more = on_ok_weaker r (adds_more a b c ts us h) more

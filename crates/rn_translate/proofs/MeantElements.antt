@@ -1,10 +1,16 @@
 -- Open elements, and what they mean once more terms are added.
-use Rattle.std.proofs.Common.{◌≡◌, List, sym, ap, subst}
+use Rattle.std.proofs.Common.{◌≡◌, List, refl, sym, ap, ◌∙◌, subst}
+use Rattle.std.specs.Prelude.{Result, OnOk, IfOk, ◌&&◌, not}
+use Rattle.std.proofs.lemmas.Result.{IfOk-weaker}
 use Rattle.rn_xml.specs.declared.document.XmlElement.{XmlElement}
 use Rattle.rn_translate.specs.inside.Terms.{Term}
-use Rattle.rn_translate.specs.inside.Layouts.{Written}
-use Rattle.rn_translate.specs.inside.Meanings.{Adds}
+use Rattle.rn_translate.specs.inside.Layouts.{Written, Layout, begins, begins_operands, is_alone, is_closed, layout, operands}
+use Rattle.rn_translate.specs.inside.Meanings.{Adds, is_parted, layout_meant}
 use Rattle.rn_translate.specs.inside.ElementsMeant.{IsMeant}
+use Rattle.rn_translate.proofs.AddedTerms.{ok_equal}
+use Rattle.rn_translate.specs.declared.kinds.Kind.{Kind}
+use Rattle.rn_translate.specs.declared.standing.Layout.{Layout as CodeLayout}
+use Rattle.rn_translate.specs.declared.standing.Operator.{Operator}
 use Rattle.rn_translate.specs.declared.translator.Open.{Open}
 use Rattle.rn_translate.specs.declared.translator.Translator.{Translator}
 
@@ -26,5 +32,29 @@ meant_after a b row o e ts h m =
       namespace = m.namespace;
       library = m.library;
       bare = m.bare;
+      scope = record { knows = record { table = m.scope.knows.table; has = m.scope.knows.has; known = m.scope.knows.known; }; declared = m.scope.declared; };
     } in
     subst (λ t. IsMeant t row o e) (sym h.same) kept
+
+-- ---- parts of an element
+
+module _ {a : Translator} {row : XmlElement} {o : Open} {e : Written} where
+  pub closed_meant : IsMeant a row o e → is_parted o ≡ is_closed e
+  closed_meant m = ap (λ b. b && not (is_alone o.place.standing)) m.except ∙ ap (λ s. e.has_except && not (is_alone s)) m.standing
+
+  pub begins_operands_meant : IsMeant a row o e → (op : Operator) → begins_operands o.place.standing op o.children.count ≡ begins_operands e.place.standing op e.count
+  begins_operands_meant m op = ap (λ s. begins_operands s op o.children.count) m.standing ∙ ap (begins_operands e.place.standing op) m.count
+
+  pub operands_meant : IsMeant a row o e → (op : Operator) → operands o.place.standing op o.children.count ≡ operands e.place.standing op e.count
+  operands_meant m op = ap (λ s. operands s op o.children.count) m.standing ∙ ap (operands e.place.standing op) m.count
+
+  -- ---- an element of a known kind
+
+  pub begins_kind : {R E : Type 0} (r : Result R E) (b : Translator) (k : Kind) (ts : List Term) → IsMeant a row o e → o.holder.kind ≡ k → ts ≡ begins e k
+      → OnOk r (Adds a b ts) → OnOk r (Adds a b (begins e e.kind))
+  begins_kind r b k ts m is same h = ok_equal r a b ts (begins e e.kind) (same ∙ ap (begins e) (sym is ∙ m.kind)) h
+
+  pub layout_kind : {E : Type 0} (r : Result CodeLayout E) (k : Kind) (l : Layout) → IsMeant a row o e → o.holder.kind ≡ k → l ≡ layout e k
+      → IfOk r (λ x. layout_meant x ≡ l) → IfOk r (λ x. layout_meant x ≡ layout e e.kind)
+  layout_kind r k l m is same h = IfOk-weaker r (λ x. layout_meant x ≡ l) (λ x. layout_meant x ≡ layout e e.kind)
+      (λ x h. h ∙ same ∙ ap (layout e) (sym is ∙ m.kind)) h

@@ -1,7 +1,7 @@
 // What values, data and parameters come to in the compact text (compact syntax, section 3).
-ghost use Rattle.std.specs.Prelude.{◌≡◌, ◌∷◌, ◌++◌, [], codes, IfOk, OnOk};
+ghost use Rattle.std.specs.Prelude.{◌≡◌, ◌∷◌, ◌++◌, [], true, codes, IfOk, OnOk};
 ghost use Rattle.rn_translate.specs.inside.Terms.{close_brace, close_parenthesis, datatype as datatype_term, literal, local as local_term, open_brace, open_parenthesis, symbol};
-ghost use Rattle.rn_translate.specs.inside.SchemaElements.{name_in, value_of};
+ghost use Rattle.rn_translate.specs.inside.SchemaElements.{holds_text, name_in, value_of};
 ghost use Rattle.rn_translate.specs.inside.Layouts.{Written, around, begins_param, datatype_terms, if_so, is_closed};
 ghost use Rattle.rn_translate.specs.inside.Meanings.{Adds, is_parted, layout_meant, sign_terms};
 ghost use Rattle.rn_translate.specs.inside.ElementsMeant.{IsMeant};
@@ -22,7 +22,7 @@ impl<'d, 'a> Translator<'d, 'a> {
         open: Open,
     ) -> Result<Layout, RngFault>
         ensures added { (e : Written) → IsMeant self.old element.now «open» e
-            → OnOk result (Adds self.old self.new
+            → holds_text e.kind ≡ true → OnOk result (Adds self.old self.new
             (datatype_terms e (value_of (codes "type") e.attributes) ++ literal e.text ∷ [])) }
         ensures layout { IfOk result (λ l. layout_meant l ≡ around []) }
     {
@@ -73,7 +73,7 @@ impl<'d, 'a> Translator<'d, 'a> {
         open: Open,
     ) -> Result<Layout, RngFault>
         ensures added { (e : Written) → IsMeant self.old element.now «open» e
-            → OnOk result (Adds self.old self.new (begins_param e)) }
+            → holds_text e.kind ≡ true → OnOk result (Adds self.old self.new (begins_param e)) }
         ensures layout { IfOk result (λ l. layout_meant l ≡ around []) }
     {
         self.put_sign(element.at, params_front(open.place.is_first))?;

@@ -3,6 +3,7 @@ ghost use Rattle.std.specs.Prelude.{◌≡◌, ◌∷◌, ◌++◌, [], true, So
 ghost use Rattle.rn_translate.specs.inside.Terms.{Namespace, keyword as keyword_term, close_brace, open_brace};
 ghost use Rattle.rn_translate.specs.inside.SchemaElements.{value_of};
 ghost use Rattle.rn_translate.specs.inside.Layouts.{Written, around, begins, begins_definition, defined, if_so, inherit_terms, is_of_grammar, layout, link_terms, method_term, operands};
+ghost use Rattle.rn_translate.specs.inside.UriTables.{IsTable};
 ghost use Rattle.rn_translate.specs.inside.Meanings.{Adds, layout_meant, sign_terms, uri_meant};
 ghost use Rattle.rn_translate.specs.inside.ElementsMeant.{IsMeant, attributes_at};
 
@@ -154,7 +155,8 @@ impl<'d, 'a> Translator<'d, 'a> {
 
     /// Writes which namespace a file inherits, if it isn't the default one.
     fn put_inherited(&mut self, at: usize, namespace: Uri) -> Result<(), RngFault>
-        ensures { (default n : Namespace) → uri_meant self.old.uris self.old.default ≡ Some default
+        ensures { (default n : Namespace) → IsTable self.old.uris
+            → uri_meant self.old.uris self.old.default ≡ Some default
             → uri_meant self.old.uris namespace ≡ Some n
             → OnOk result (Adds self.old self.new (inherit_terms default n)) }
     {

@@ -2,7 +2,7 @@
 ghost use Rattle.std.specs.Prelude.{◌≡◌, ◌∷◌, ◌++◌, List, [], true, Some, None, codes, if◌then◌else◌, string_bytes, IfOk, OnOk};
 ghost use Rattle.rn_translate.specs.inside.Terms.{Term as MeantTerm, close_parenthesis, open_parenthesis};
 ghost use Rattle.rn_translate.specs.inside.TermNames.{has_names};
-ghost use Rattle.rn_translate.specs.inside.SchemaElements.{value_of};
+ghost use Rattle.rn_translate.specs.inside.SchemaElements.{holds_text, value_of};
 ghost use Rattle.rn_translate.specs.inside.Layouts.{Written, around, begins_named, closing, given_name, has_name, if_so, name_terms, named, opening, operands, then_behind, unprefixed_in};
 ghost use Rattle.rn_translate.specs.inside.Meanings.{Adds, is_parted, known, layout_meant, sign_terms, term_meant, uri_meant};
 ghost use Rattle.rn_translate.specs.inside.ElementsMeant.{IsMeant};
@@ -97,7 +97,7 @@ impl<'d, 'a> Translator<'d, 'a> {
         open: Open,
     ) -> Result<Layout, RngFault>
         ensures added { (e : Written) → IsMeant self.old element.now «open» e
-            → OnOk result (Adds self.old self.new (name_terms e e.context.namespace e.text)) }
+            → holds_text e.kind ≡ true → OnOk result (Adds self.old self.new (name_terms e e.context.namespace e.text)) }
         ensures layout { IfOk result (λ l. layout_meant l ≡ around []) }
     {
         let (at, content) = self.content(open.index, element.at);

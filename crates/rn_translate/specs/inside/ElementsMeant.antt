@@ -1,5 +1,5 @@
 -- Elements of the code, and what they mean.
-use Rattle.std.specs.Prelude.{◌≡◌, ℕ, Some, List, map, is_some, unwrap_or, slice_get, codes}
+use Rattle.std.specs.Prelude.{◌≡◌, ℕ, true, Some, List, map, is_some, unwrap_or, slice_get, codes}
 use Rattle.rn_text.specs.Texts.{Text}
 use Rattle.rn_xml.specs.Infoset.{Attribute}
 use Rattle.rn_xml.specs.XmlTags.{Scope}
@@ -10,7 +10,7 @@ use Rattle.rn_xml.specs.inside.OpenTables.{binding_at, Denotes}
 use Rattle.rn_xml.specs.declared.document.XmlElement.{XmlElement}
 use Rattle.rn_xml.specs.declared.document.XmlDocument.{XmlDocument}
 use Rattle.rn_translate.specs.inside.Terms.{uri}
-use Rattle.rn_translate.specs.inside.SchemaElements.{value_of}
+use Rattle.rn_translate.specs.inside.SchemaElements.{holds_text, value_of}
 use Rattle.rn_translate.specs.inside.Layouts.{Written}
 use Rattle.rn_translate.specs.inside.UriTables.{HasUrisOf, IsTable, empty_uri}
 use Rattle.rn_translate.specs.inside.Meanings.{uri_meant}
@@ -38,7 +38,7 @@ pub record IsMeant (t : Translator) (row : XmlElement) (o : Open) (e : Written) 
   pub kind : o.holder.kind ≡ e.kind
   pub named : o.holder.is_named ≡ is_some (value_of (codes "name") e.attributes)
   pub attributes : e.attributes ≡ attributes_at t.document.now row
-  pub text : e.text ≡ content_at t.document.now t.text o.index
+  pub text : holds_text e.kind ≡ true → e.text ≡ content_at t.document.now t.text o.index
   pub count : o.children.count ≡ e.count
   pub except : o.children.has_except ≡ e.has_except
   pub standing : o.place.standing ≡ e.place.standing
