@@ -1,5 +1,5 @@
 -- Attributes that are looked for by their names.
-use Rattle.std.proofs.Common.{◌≡◌, ℕ, ◌+◌, ◌-◌, ◌<◌, ◌≤◌, Bool, true, false, cond, List, [], ◌∷◌, length, take, drop, refl, sym, ap, ◌∙◌, subst, arith, ⊎_elim, ne_eqb, Bor, Some, None}
+use Rattle.std.proofs.Common.{◌≡◌, ℕ, suc, ◌+◌, ◌-◌, ◌<◌, ◌≤◌, Bool, true, false, cond, List, [], ◌∷◌, length, take, drop, refl, sym, ap, ◌∙◌, subst, arith, ⊎_elim, ne_eqb, Bor, Some, None}
 use Rattle.std.specs.Prelude.{Option, All, option_map, map, bytes_eq, string_bytes, ◌==◌, ◌&&◌, nat_le}
 use Rattle.std.specs.List.{find}
 use Rattle.std.proofs.lemmas.Bool.{and_parts, cases_Bool, cond-true, cond-false}
@@ -11,7 +11,6 @@ use Rattle.rn_xml.specs.TableRows.{rows_of}
 use Rattle.rn_xml.specs.declared.document.Rows.{Rows}
 use Rattle.rn_xml.specs.declared.document.XmlAttribute.{XmlAttribute}
 use Rattle.rn_xml.specs.declared.document.XmlDocument.{XmlDocument}
-use Rattle.rn_xml.proofs.ScopeMeans.{all_head, all_tail}
 use Rattle.rn_xml.proofs.ScopeSteps.{same_bytes}
 use Rattle.rn_translate.specs.inside.SchemaElements.{value_of}
 
@@ -40,8 +39,8 @@ value_holds P d x v [] all is = absurd (none-some v is)
 value_holds P d x v (a ∷ rows) all is = ⊎_elim
     (λ hit.
     let value : string_bytes a.value ≡ v = same_Some (string_bytes a.value) v (sym (cond-true (is_named d x a) (Some (string_bytes a.value)) (value_of x (map (attribute_of d) rows)) hit) ∙ is) in
-    subst P value (all_head _ a rows all (same_bytes a.name.local.now x (and_parts _ _ hit).0)))
-    (λ miss. value_holds P d x v rows (all_tail _ a rows all) (sym (cond-false (is_named d x a) (Some (string_bytes a.value)) (value_of x (map (attribute_of d) rows)) miss) ∙ is))
+    subst P value (all 0 a (omega arith) (same_bytes a.name.local.now x (and_parts _ _ hit).0)))
+    (λ miss. value_holds P d x v rows (λ k r h. all (suc k) r (omega (arith, h))) (sym (cond-false (is_named d x a) (Some (string_bytes a.value)) (value_of x (map (attribute_of d) rows)) miss) ∙ is))
     (cases_Bool (is_named d x a))
 
 pub all_rows : {A : Type 0} (P : A → Type 0) (rows : Rows) (table : List A) → All P table → All P (rows_of rows table)

@@ -12,3 +12,8 @@ pub mod NumberedNames
 pub mod TrimmedTexts
 pub mod UriMeanings
 pub mod AttributeRows
+pub mod KindNames
+pub mod ChildCounts
+pub mod NamesInScope
+pub mod ContentTexts
+pub mod AddedUris

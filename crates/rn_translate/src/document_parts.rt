@@ -1,9 +1,9 @@
 // The parts of a document that a schema is made of: its elements of RELAX NG, attributes and texts.
-ghost use Rattle.std.specs.Prelude.{◌≡◌, ◌+◌, ◌<◌, ◌^◌, ℕ, bytes_eq, option_map, string_bytes};
+ghost use Rattle.std.specs.Prelude.{◌≡◌, ◌+◌, ◌<◌, ◌^◌, ◌||◌, ◌&&◌, [], ℕ, None, IsSome, bytes_eq, if◌then◌else◌, nat_lt, option_map, slice_get, string_bytes, vec_len};
 ghost use Rattle.rn_text.specs.Texts.{is_white};
 ghost use Rattle.rn_xml.specs.Infoset.{Nodes};
 ghost use Rattle.rn_xml.specs.DocumentTrees.{AreChildren, name_of, uri_at_index};
-ghost use Rattle.rn_translate.specs.inside.SchemaElements.{count_of, has_except, kind_of, rng_uri, trimmed, value_of};
+ghost use Rattle.rn_translate.specs.inside.SchemaElements.{count_of, has_except, is_except_kind, is_foreign, kind_of, rng_uri, trimmed, value_of};
 ghost use Rattle.rn_translate.specs.inside.ElementsMeant.{attributes_at};
 ghost use Rattle.rn_translate.specs.inside.Walks.{AreNested};
 
@@ -53,13 +53,17 @@ pub(crate) struct Children {
 
 impl Children {
     /// With one more behind them.
-    fn and(self, kind: Option<Kind>) -> Children {
-        if kind == Some(Kind::Foreign) {
+    fn and(self, kind: Option<Kind>) -> Children
+        ensures count { self.count + 1 < 2 ^ 64
+            → result.count ≡ (if is_foreign kind then self.count else self.count + 1) }
+        ensures except { result.has_except ≡ (self.has_except || is_except_kind kind) }
+    {
+        if matches!(kind, Some(Kind::Foreign)) {
             return self;
         }
         Children {
             count: self.count.saturating_add(1),
-            has_except: self.has_except || kind == Some(Kind::Except),
+            has_except: self.has_except || matches!(kind, Some(Kind::Except)),
             has_class: if self.count == 0 {
                 kind.is_some_and(|it| Role::NameClass.admits(it))
             } else {
@@ -72,9 +76,26 @@ impl Children {
 /// The index of the first element that is in neither this one nor before it.
 pub(crate) fn behind(index: usize, element: &XmlElement<'_>) -> usize
     requires { index + 1 < 2 ^ 64 }
-    ensures { index < result }
+    ensures behind { index < result }
+    ensures end { index < element.now.end → result ≡ element.now.end }
 {
     element.end.max(index + 1)
+}
+
+/// The element of this index, if it comes before the element `end`.
+pub(crate) fn child_at<'d, 'a>(
+    document: &'d XmlDocument<'a>,
+    end: usize,
+    index: usize,
+) -> Option<&'d XmlElement<'a>>
+    ensures within { IsSome result → index < vec_len document.now.elements }
+    ensures child { option_map (λ child. child.now) result ≡ (if nat_lt index end
+        then slice_get document.now.elements.items index else None) }
+{
+    if index < end {
+        return document.elements.get(index);
+    }
+    None
 }
 
 /// The children of the element of this index, which are before the element `end`.
@@ -91,10 +112,7 @@ pub(crate) fn children_of(document: &XmlDocument<'_>, index: usize, end: usize) 
         has_class: false,
     };
     let mut next = index.saturating_add(1);
-    'children: while next < end {
-        let Some(child) = document.elements.get(next) else {
-            break;
-        };
+    'children: while let Some(child) = child_at(document, end, next) {
         children = children.and(kind_of(document, child));
         next = behind(next, child);
     }
@@ -110,15 +128,27 @@ pub(crate) fn attribute<'d, 'a>(
     ensures { option_map (λ found. string_bytes found.now.value) result
         ≡ value_of local.now (attributes_at document.now element.now) }
 {
-    document.attributes_of(element).iter().find(|it| it.name.local == local
-        && uri_at(document, it.name.uri).is_empty())
+    document
+        .attributes_of(element)
+        .iter()
+        .find(|it| is_named(document, it, local))
+}
+
+/// Whether an attribute has this name and no namespace.
+#[tactic(auto, using(crate::proofs::AttributeRows::empty_bytes))]
+fn is_named(document: &XmlDocument<'_>, attribute: &XmlAttribute<'_>, local: &str) -> bool
+    ensures { result ≡ (bytes_eq attribute.now.name.local.now local.now
+        && bytes_eq (uri_at_index document.now attribute.now.name.uri) []) }
+{
+    attribute.name.local == local && uri_at(document, attribute.name.uri).is_empty()
 }
 
 /// A text without the white space at its ends (4.2).
 pub(crate) fn trimmed(text: &str) -> &str
     ensures { result.now ≡ trimmed text.now }
 {
-    text.trim_matches(is_white_space)
+    text.trim_start_matches(is_white_space)
+        .trim_end_matches(is_white_space)
 }
 
 /// Whether a character is white space of XML (XML 1.0, production 3).

@@ -1,5 +1,5 @@
 // The walk over the elements of a document, which collects the terms of its compact text.
-ghost use Rattle.std.specs.Prelude.{◌≡◌, ◌==◌, ◌<◌, ◌≤◌, ◌+◌, ◌-◌, ◌*◌, ◌^◌, ◌++◌, ℕ, true, false, if◌then◌else◌, nat_le, List, IfOk, IsSome, OnOk, Some, codes, vec_len};
+ghost use Rattle.std.specs.Prelude.{◌≡◌, ◌==◌, ◌<◌, ◌≤◌, ◌+◌, ◌-◌, ◌*◌, ◌^◌, ◌++◌, ℕ, true, false, if◌then◌else◌, nat_le, List, IfOk, OnOk, Some, codes, vec_len};
 ghost use Rattle.rn_xml.specs.Infoset.{Nodes};
 ghost use Rattle.rn_translate.specs.inside.Terms.{Namespace, Term as MeantTerm};
 ghost use Rattle.rn_translate.specs.inside.SchemaElements.{bare_in, nearest, text_of, value_of};
@@ -8,10 +8,10 @@ ghost use Rattle.rn_translate.specs.inside.Translation.{before_child, behind_chi
 ghost use Rattle.rn_translate.specs.inside.ElementsMeant.{IsMeant, KnowsUris, attributes_at};
 ghost use Rattle.rn_translate.specs.inside.Meanings.{Adds, AddsInScope, class_meant, is_parted, known, layout_meant, sign_terms, term_meant, uri_meant};
 ghost use Rattle.rn_translate.specs.inside.TermNames.{has_names};
-ghost use Rattle.rn_translate.specs.inside.Walks.{IsContent, content_at};
+ghost use Rattle.rn_translate.specs.inside.Walks.{AreNested, IsContent, content_at};
 
 use crate::content::{Holder, needed_attribute};
-use crate::document_parts::{Children, attribute, behind, children_of, kind_of, uri_at};
+use crate::document_parts::{Children, attribute, behind, child_at, children_of, kind_of, uri_at};
 use crate::kinds::{Kind, Role};
 use crate::rng_fault::{RngFault, RngFaultKind, shown};
 use crate::signs::Sign;
@@ -86,20 +86,6 @@ pub(crate) struct Level {
     begun: Begun,
     /// What comes behind the element.
     behind: Sign,
-}
-
-/// The child of an element that ends before the element `end`, if there is one of this index.
-fn child_at<'d, 'a>(
-    document: &'d XmlDocument<'a>,
-    end: usize,
-    index: usize,
-) -> Option<&'d XmlElement<'a>>
-    ensures { IsSome result → index < vec_len document.now.elements }
-{
-    if index < end {
-        return document.elements.get(index);
-    }
-    None
 }
 
 /// What is known in the middle of a document.
@@ -422,7 +408,7 @@ impl<'d, 'a> Translator<'d, 'a> {
     /// The text that an element begins with, and its place; where it has none, the given place.
     pub fn content(&self, index: usize, at: usize) -> (usize, &'d str)
         ensures at { result.1.now ≡ content_at self.now.document.now self.now.text index }
-        ensures text { (k : Nodes) (after : ℕ) → IsContent self.now.document.now index
+        ensures text { (k : Nodes) (after : ℕ) → AreNested self.now.document.now → IsContent self.now.document.now index
             self.now.text k after → result.1.now ≡ text_of k }
     {
         let document = self.document;

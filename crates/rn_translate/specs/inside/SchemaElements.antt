@@ -74,6 +74,10 @@ abbrev pub is_part : Node → Bool
 is_part (element n bound attributes inside) = bytes_eq n.uri rng_uri
 is_part (characters text) = false
 
+abbrev pub is_foreign : Option Kind → Bool
+is_foreign (Some k.Foreign) = true
+is_foreign _ = false
+
 abbrev pub is_except_kind : Option Kind → Bool
 is_except_kind (Some k.Except) = true
 is_except_kind _ = false

@@ -6,8 +6,8 @@ use Rattle.rn_translate.specs.inside.Layouts.{given_name, name_terms, opening, u
 use Rattle.rn_translate.proofs.AddedTerms.{adds_none, adds_equal, ok_equal, ok_more}
 use Rattle.rn_translate.proofs.translator.Translator.put_front_name.Goals as goal
 
-pub returns-in-Some : goal.returns-in-Some
-returns-in-Some c = λ e m.
+pub returns : goal.returns
+returns c = λ e m.
     let given = rw c.in-Some.is at c.attribute.ensures in
     let name = name_terms e (unprefixed_in e e.kind) (string_bytes c.in-Some.name.now.value) in
     ok_equal _ _ _ _ _ (ap (λ ts. name ++ ts) (c.opening.ensures ∙ ap opening m.count) ∙ ap (given_name e) (given ∙ ap (value_of (codes "name")) (sym m.attributes)))

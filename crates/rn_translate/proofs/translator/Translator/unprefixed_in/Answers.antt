@@ -1,7 +1,8 @@
 -- That of the context, but for an attribute that gives none itself.
-use Rattle.std.proofs.Common.{◌≡◌, sym, ap, ◌∙◌, true, false, refl, Some}
-use Rattle.std.specs.Prelude.{codes, is_some, if◌then◌else◌}
-use Rattle.rn_translate.specs.inside.Terms.{uri}
+use Rattle.std.proofs.Common.{◌≡◌, sym, ap, ◌∙◌, refl, Some}
+use Rattle.std.specs.Prelude.{codes, is_some, if◌then◌else◌, Option}
+use Rattle.rn_text.specs.Texts.{Text}
+use Rattle.rn_translate.specs.inside.Terms.{Namespace, uri}
 use Rattle.rn_translate.specs.inside.SchemaElements.{value_of}
 use Rattle.rn_translate.specs.inside.Layouts.{Written, unprefixed_in}
 use Rattle.rn_translate.specs.declared.kinds.Kind.{Kind}
@@ -9,8 +10,11 @@ use Rattle.rn_translate.specs.declared.kinds.Kind.TheVariants as k
 use Rattle.rn_translate.proofs.UriMeanings.{empty_meant}
 use Rattle.rn_translate.proofs.translator.Translator.unprefixed_in.Goals as goal
 
-pub returns-then : goal.returns-then
-returns-then c = λ e m. ?
+-- an attribute has a namespace of its own
+of_attribute : (e : Written) → (given : Option Text) → value_of (codes "ns") e.attributes ≡ given → k.Attribute ≡ e.kind
+    → (if is_some given then e.context.namespace else uri []) ≡ unprefixed_in e e.kind
+of_attribute e given is attribute =
+    ap (λ o. if is_some o then e.context.namespace else uri []) (sym is) ∙ ap (unprefixed_in e) attribute
 
 pub returns-in-Some : goal.returns-in-Some
 returns-in-Some c = λ e m. ?
