@@ -81,12 +81,12 @@ impl<'d, 'a> Translator<'d, 'a> {
         ensures { (e : Written) → IsMeant self.now element.now «open» e
             → uri_meant self.now.uris result ≡ Some (unprefixed_in e e.kind) }
     {
-        if open.holder.kind != Kind::Attribute {
-            return open.context.namespace;
-        }
-        match attribute(self.document, element, "ns") {
-            Some(_) => open.context.namespace,
-            None => Uri::EMPTY,
+        match open.holder.kind {
+            Kind::Attribute => match attribute(self.document, element, "ns") {
+                Some(_) => open.context.namespace,
+                None => Uri::EMPTY,
+            },
+            _ => open.context.namespace,
         }
     }
 

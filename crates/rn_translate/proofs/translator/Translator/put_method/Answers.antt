@@ -12,4 +12,4 @@ returns-in-Some c =
 pub returns-in-None : goal.returns-in-None
 returns-in-None c =
     let given = rw c.in-None.is at c.attribute.ensures in
-    ok_equal _ _ _ _ _ (ap method_term given) c.put_sign.ensures
+    ok_equal _ _ _ _ _ (ap method_term given) c.put_sign-in-None.ensures
