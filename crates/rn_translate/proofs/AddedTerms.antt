@@ -6,7 +6,9 @@ use Rattle.std.proofs.lemmas.Result.{on_ok_weaker}
 use Rattle.rn_translate.specs.inside.Terms.{Term}
 use Rattle.rn_translate.specs.inside.Layouts.{if_so}
 use Rattle.rn_translate.specs.declared.translator.Translator.{Translator}
+use Rattle.rn_translate.specs.inside.ElementsMeant.{IsInScope}
 use Rattle.rn_translate.specs.inside.Meanings.{Adds, known, terms_meant}
+use Rattle.rn_xml.specs.XmlTags.{Scope}
 
 pub adds_none : (a : Translator) → Adds a a []
 adds_none a = record { same = refl; terms = sym (append-nil (terms_meant a.uris a.terms.items)) }
@@ -32,3 +34,11 @@ ok_equal r a b ts us e h = on_ok_weaker r (adds_equal a b ts us e) h
 -- the last call of several adds more
 pub ok_more : {R E : Type 0} (r : Result R E) (a b c : Translator) (ts us : List Term) → Adds a b ts → OnOk r (Adds b c us) → OnOk r (Adds a c (ts ++ us))
 ok_more r a b c ts us h more = on_ok_weaker r (adds_more a b c ts us h) more
+
+-- ---- where terms are added, the rest means what it meant
+
+pub scope_in : (a : Translator) (b : Translator) (s : Scope) → IsInScope a s → IsInScope (record a { terms = b.terms }) s
+scope_in a b s is = record { knows = record { table = is.knows.table; has = is.knows.has; known = is.knows.known }; declared = is.declared }
+
+pub in_scope_still : (a b : Translator) (ts : List Term) (s : Scope) → Adds a b ts → IsInScope a s → IsInScope b s
+in_scope_still a b ts s h is = subst (λ (x : Translator). IsInScope x s) (sym h.same) (scope_in a b s is)

@@ -33,3 +33,14 @@ first_text {e = e} nested (AreChildren.child {row = row} there is before inner r
 
 pub content_text : {d : XmlDocument} {e t after : ℕ} {k : Nodes} → AreNested d → IsContent d e t k after → content_at d t e ≡ text_of k
 content_text {e = e} nested c = first_text nested c.children (omega arith) c.ends
+
+-- ---- the text of this index is the element's, or it isn't
+
+pub this_content : (d : XmlDocument) (t e : ℕ) (row : XmlText) → slice_get d.texts.items t ≡ Some row → row.parent ≡ e → content_at d t e ≡ string_bytes row.content
+this_content d t e row there is = ap (content_in e) there ∙ cond-true (row.parent == e) (string_bytes row.content) [] (ap (λ n. n == e) is ∙ same_index e)
+
+pub other_content : (d : XmlDocument) (t e : ℕ) (row : XmlText) → slice_get d.texts.items t ≡ Some row → row.parent ≢ e → content_at d t e ≡ []
+other_content d t e row there other = ap (content_in e) there ∙ cond-false (row.parent == e) (string_bytes row.content) [] (ne_eqb row.parent e other)
+
+pub no_content : (d : XmlDocument) (t e : ℕ) → slice_get d.texts.items t ≡ None → content_at d t e ≡ []
+no_content d t e none = ap (content_in e) none

@@ -7,7 +7,7 @@ use Rattle.rn_translate.specs.inside.Terms.{Term}
 use Rattle.rn_translate.specs.inside.Layouts.{Written, Layout, begins, begins_operands, is_alone, is_closed, layout, operands}
 use Rattle.rn_translate.specs.inside.Meanings.{Adds, is_parted, layout_meant}
 use Rattle.rn_translate.specs.inside.ElementsMeant.{IsMeant}
-use Rattle.rn_translate.proofs.AddedTerms.{ok_equal}
+use Rattle.rn_translate.proofs.AddedTerms.{ok_equal, scope_in}
 use Rattle.rn_translate.specs.declared.kinds.Kind.{Kind}
 use Rattle.rn_translate.specs.declared.standing.Layout.{Layout as CodeLayout}
 use Rattle.rn_translate.specs.declared.standing.Operator.{Operator}
@@ -32,7 +32,7 @@ meant_after a b row o e ts h m =
       namespace = m.namespace;
       library = m.library;
       bare = m.bare;
-      scope = record { knows = record { table = m.scope.knows.table; has = m.scope.knows.has; known = m.scope.knows.known; }; declared = m.scope.declared; };
+      scope = scope_in a b e.context.scope m.scope;
     } in
     subst (λ t. IsMeant t row o e) (sym h.same) kept
 

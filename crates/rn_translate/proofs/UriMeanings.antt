@@ -51,13 +51,13 @@ meaning uris u n is = ⊎_elim
 -- ---- two of one table mean the same if they are the same
 
 same_indices : (uris : Uris) → AreIndexed uris → (u v : Uri) (x y : Text) → 0 < u.index → text_at uris u.index ≡ Some x → 0 < v.index → text_at uris v.index ≡ Some y → bytes_eq x y ≡ (u.index == v.index)
-same_indices uris are u v x y some is other isn = ⊎_elim
+same_indices uris are u v x y some is positive isn = ⊎_elim
     (λ equal.
     let same : u.index ≡ v.index = grind (arith, nat_tests) in
     let texts : x ≡ y = same_Some x y (sym is ∙ ap (text_at uris) same ∙ isn) in
     equal_bytes x y texts ∙ sym equal)
     (λ unequal. other_bytes x y (λ same.
-    let indices : u.index ≡ v.index = same_Some u.index v.index (sym (are.is_known y u.index some (is ∙ ap (λ t. Some t) same)) ∙ are.is_known y v.index other isn) in
+    let indices : u.index ≡ v.index = same_Some u.index v.index (sym (are.is_known y u.index some (is ∙ ap (λ t. Some t) same)) ∙ are.is_known y v.index positive isn) in
     absurd (grind (arith, nat_tests))) ∙ sym unequal)
     (cases_Bool (u.index == v.index))
 
@@ -65,7 +65,7 @@ both : (uris : Uris) → AreIndexed uris → (u v : Uri) (n m : Namespace) → M
 both uris are u v inherited inherited (Means.first a) (Means.first b) = grind (arith, nat_tests)
 both uris are u v inherited (uri y) (Means.first a) (Means.other some b) = grind (arith, nat_tests)
 both uris are u v (uri x) inherited (Means.other some a) (Means.first b) = grind (arith, nat_tests)
-both uris are u v (uri x) (uri y) (Means.other some a) (Means.other other b) = same_indices uris are u v x y some a other b
+both uris are u v (uri x) (uri y) (Means.other some a) (Means.other positive b) = same_indices uris are u v x y some a positive b
 
 pub same_meant : (uris : Uris) → IsTable uris → (u v : Uri) (n m : Namespace) → uri_meant uris u ≡ Some n → uri_meant uris v ≡ Some m → is_same n m ≡ (u.index == v.index)
 same_meant uris table u v n m is isn = both uris table.indexed u v n m (meaning uris u n is) (meaning uris v m isn)

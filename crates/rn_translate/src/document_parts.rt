@@ -8,7 +8,7 @@ ghost use Rattle.rn_translate.specs.inside.ElementsMeant.{attributes_at};
 ghost use Rattle.rn_translate.specs.inside.Walks.{AreNested};
 
 use crate::kinds::{Kind, Role};
-use rn_xml::{XmlAttribute, XmlDocument, XmlElement};
+use rn_xml::{XmlAttribute, XmlDocument, XmlElement, XmlText};
 
 /// The namespace of RELAX NG.
 const RNG_URI: &str = "http://relaxng.org/ns/structure/1.0";
@@ -96,6 +96,13 @@ pub(crate) fn child_at<'d, 'a>(
         return document.elements.get(index);
     }
     None
+}
+
+/// The text of this index, if there is one.
+pub(crate) fn text_at<'d>(document: &'d XmlDocument<'_>, index: usize) -> Option<&'d XmlText>
+    ensures { option_map (λ text. text.now) result ≡ slice_get document.now.texts.items index }
+{
+    document.texts.get(index)
 }
 
 /// The children of the element of this index, which are before the element `end`.

@@ -11,7 +11,7 @@ ghost use Rattle.rn_translate.specs.inside.TermNames.{has_names};
 ghost use Rattle.rn_translate.specs.inside.Walks.{AreNested, IsContent, content_at};
 
 use crate::content::{Holder, needed_attribute};
-use crate::document_parts::{Children, attribute, behind, child_at, children_of, kind_of, uri_at};
+use crate::document_parts::{Children, attribute, behind, child_at, children_of, kind_of, text_at, uri_at};
 use crate::kinds::{Kind, Role};
 use crate::rng_fault::{RngFault, RngFaultKind, shown};
 use crate::signs::Sign;
@@ -411,8 +411,7 @@ impl<'d, 'a> Translator<'d, 'a> {
         ensures text { (k : Nodes) (after : ℕ) → AreNested self.now.document.now → IsContent self.now.document.now index
             self.now.text k after → result.1.now ≡ text_of k }
     {
-        let document = self.document;
-        match document.texts.get(self.text) {
+        match text_at(self.document, self.text) {
             Some(text) if text.parent == index => (text.at, text.content.as_str()),
             _ => (at, ""),
         }

@@ -1,5 +1,5 @@
 // Names in a schema, and how they are written in the compact text (RELAX NG 2001, 4.2 and 4.8 to 4.10).
-ghost use Rattle.std.specs.Prelude.{◌≡◌, ◌∷◌, ◌==◌, [], true, false, IfNone, OnOk, Some, bytes_eq, codes, if◌then◌else◌, option_map, unwrap_or};
+ghost use Rattle.std.specs.Prelude.{◌≡◌, ◌∷◌, ◌==◌, [], true, false, IfNone, OnOk, Some, bytes_eq, codes, if◌then◌else◌, option_map, slice_get, unwrap_or};
 ghost use Rattle.std.specs.Option.{option_map_or};
 ghost use Rattle.std.specs.Str.{chars};
 ghost use Rattle.rn_text.specs.Characters.{is_ncname};
@@ -139,14 +139,30 @@ impl<'d, 'a> Translator<'d, 'a> {
             → bytes_eq prefix.now (codes "xml") ≡ false → uri_meant self.now.uris result
             ≡ Some (uri_namespace (unwrap_or (uri_in scope prefix.now) [])) }
     {
-        let Some(index) = self.scopes.find(prefix) else {
-            return Uri::EMPTY;
-        };
-        let Some(declaration) = self.document.declarations.get(index) else {
-            return Uri::EMPTY;
-        };
+        match self.scopes.find(prefix) {
+            Some(index) => self.declared_namespace(index),
+            None => Uri::EMPTY,
+        }
+    }
+
+    /// The namespace of the declaration of this index; none where there is no declaration.
+    fn declared_namespace(&self, index: usize) -> Uri
+        ensures { result ≡ option_map_or
+            (λ it. unwrap_or (slice_get self.now.document_uris.items it.uri) Uri.EMPTY)
+            (slice_get self.now.document.now.declarations.items index) Uri.EMPTY }
+    {
+        match self.document.declarations.get(index) {
+            Some(declaration) => self.document_uri(declaration.uri),
+            None => Uri::EMPTY,
+        }
+    }
+
+    /// The URI of the document's namespace of this index; the empty one where there is none.
+    fn document_uri(&self, index: usize) -> Uri
+        ensures { result ≡ unwrap_or (slice_get self.now.document_uris.items index) Uri.EMPTY }
+    {
         self.document_uris
-            .get(declaration.uri)
+            .get(index)
             .copied()
             .unwrap_or(Uri::EMPTY)
     }
