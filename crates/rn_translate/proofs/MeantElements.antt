@@ -1,16 +1,19 @@
 -- Open elements, and what they mean once more terms are added.
-use Rattle.std.proofs.Common.{◌≡◌, List, refl, sym, ap, ◌∙◌, subst}
+use Rattle.std.proofs.Common.{◌≡◌, List, ◌++◌, refl, sym, ap, ◌∙◌, subst}
 use Rattle.std.specs.Prelude.{Result, OnOk, IfOk, ◌&&◌, not}
 use Rattle.std.proofs.lemmas.Result.{IfOk-weaker}
 use Rattle.rn_xml.specs.declared.document.XmlElement.{XmlElement}
-use Rattle.rn_translate.specs.inside.Terms.{Term}
-use Rattle.rn_translate.specs.inside.Layouts.{Written, Layout, begins, begins_operands, is_alone, is_closed, layout, operands}
-use Rattle.rn_translate.specs.inside.Meanings.{Adds, is_parted, layout_meant}
+use Rattle.rn_translate.specs.inside.Terms.{Term, open_parenthesis, close_parenthesis}
+use Rattle.rn_translate.specs.inside.Layouts.{Written, Layout, begins, begins_operands, if_so, is_alone, is_closed, is_tight, layout, operands, then_behind}
+use Rattle.rn_translate.specs.inside.Meanings.{Adds, is_parted, layout_meant, sign_terms}
 use Rattle.rn_translate.specs.inside.ElementsMeant.{IsMeant}
 use Rattle.rn_translate.proofs.AddedTerms.{ok_equal, scope_in}
 use Rattle.rn_translate.specs.declared.kinds.Kind.{Kind}
 use Rattle.rn_translate.specs.declared.standing.Layout.{Layout as CodeLayout}
+use Rattle.rn_translate.specs.declared.signs.Sign.{Sign}
 use Rattle.rn_translate.specs.declared.standing.Operator.{Operator}
+use Rattle.rn_translate.specs.declared.standing.Operator.TheVariants as op
+use Rattle.rn_translate.specs.declared.standing.Standing.TheVariants as s
 use Rattle.rn_translate.specs.declared.translator.Open.{Open}
 use Rattle.rn_translate.specs.declared.translator.Translator.{Translator}
 
@@ -47,6 +50,16 @@ module _ {a : Translator} {row : XmlElement} {o : Open} {e : Written} where
 
   pub operands_meant : IsMeant a row o e → (op : Operator) → operands o.place.standing op o.children.count ≡ operands e.place.standing op e.count
   operands_meant m op = ap (λ s. operands s op o.children.count) m.standing ∙ ap (operands e.place.standing op) m.count
+
+  pub begins_repetition : IsMeant a row o e → if_so (is_tight o.place.standing) open_parenthesis ++ begins_operands s.Tight op.Comma o.children.count
+      ≡ if_so (is_tight e.place.standing) open_parenthesis ++ begins_operands s.Tight op.Comma e.count
+  begins_repetition m = ap (λ p. if_so (is_tight p) open_parenthesis ++ begins_operands s.Tight op.Comma o.children.count) m.standing
+      ∙ ap (λ n. if_so (is_tight e.place.standing) open_parenthesis ++ begins_operands s.Tight op.Comma n) m.count
+
+  pub repetition_meant : IsMeant a row o e → (sign : Sign) → then_behind (operands s.Tight op.Comma o.children.count) (sign_terms sign ++ if_so (is_tight o.place.standing) close_parenthesis)
+      ≡ then_behind (operands s.Tight op.Comma e.count) (sign_terms sign ++ if_so (is_tight e.place.standing) close_parenthesis)
+  repetition_meant m sign = ap (λ p. then_behind (operands s.Tight op.Comma o.children.count) (sign_terms sign ++ if_so (is_tight p) close_parenthesis)) m.standing
+      ∙ ap (λ n. then_behind (operands s.Tight op.Comma n) (sign_terms sign ++ if_so (is_tight e.place.standing) close_parenthesis)) m.count
 
   -- ---- an element of a known kind
 
