@@ -269,11 +269,13 @@ impl<'d, 'a> Translator<'d, 'a> {
         child: &'d XmlElement<'a>,
         kind: Kind,
     ) -> Result<Level, RngFault>
-        ensures added { (e : Written) → IfOk result (λ level. IsMeant self.new child.now level.«open» e
-            → AddsInScope self.old self.new (before_child (layout_meant around.layout).class
-            (layout_meant around.layout).separator around.begun.count ++ begins e e.kind)) }
-        ensures layout { (e : Written) → IfOk result (λ level. IsMeant self.new child.now level.«open» e
-            → layout_meant level.layout ≡ layout e e.kind) }
+        ensures added { (f e : Written) (row : XmlElement) → IsChildOf self.old row around child.now index kind f e
+            → OnOk result (AddsInScope self.old self.new (before_child (layout f f.kind).class
+            (layout f f.kind).separator around.begun.count ++ begins e e.kind)) }
+        ensures meant { (f e : Written) (row : XmlElement) → IsChildOf self.old row around child.now index kind f e
+            → IfOk result (λ level. IsMeant self.new child.now level.«open» e) }
+        ensures layout { (f e : Written) (row : XmlElement) → IsChildOf self.old row around child.now index kind f e
+            → IfOk result (λ level. layout_meant level.layout ≡ layout e e.kind) }
         ensures behind { IfOk result (λ level. sign_terms level.behind
             ≡ behind_child (layout_meant around.layout).class around.begun.count) }
     {
@@ -303,10 +305,12 @@ impl<'d, 'a> Translator<'d, 'a> {
         around: Context,
         place: Place,
     ) -> Result<Level, RngFault>
-        ensures added { (e : Written) → IfOk result (λ level. IsMeant self.new element.now level.«open» e
-            → AddsInScope self.old self.new (begins e e.kind)) }
-        ensures layout { (e : Written) → IfOk result (λ level. IsMeant self.new element.now level.«open» e
-            → layout_meant level.layout ≡ layout e e.kind) }
+        ensures added { (e : Written) → Comes self.old element.now index kind around place e
+            → OnOk result (AddsInScope self.old self.new (begins e e.kind)) }
+        ensures meant { (e : Written) → Comes self.old element.now index kind around place e
+            → IfOk result (λ level. IsMeant self.new element.now level.«open» e) }
+        ensures layout { (e : Written) → Comes self.old element.now index kind around place e
+            → IfOk result (λ level. layout_meant level.layout ≡ layout e e.kind) }
     {
         let open = self.opened(index, element, kind, around, place)?;
         let layout = self.write_front(element, open)?;
@@ -440,7 +444,9 @@ impl<'d, 'a> Translator<'d, 'a> {
         around: Context,
         place: Place,
     ) -> Result<Open, RngFault>
-        ensures { self.new ≡ record self.old { scopes = self.new.scopes } }
+        ensures same { self.new ≡ record self.old { scopes = self.new.scopes } }
+        ensures meant { (e : Written) → Comes self.old element.now index kind around place e
+            → IfOk result (λ o. IsMeant self.new element.now o e) }
     {
         let holder = Holder {
             kind,
