@@ -1,6 +1,6 @@
 -- A text that is added to the table of URIs.
 use Rattle.std.proofs.Common.{◌≡◌, ℕ, ◌+◌, ◌<◌, ◌≤◌, Bool, true, false, cond, List, [], ◌∷◌, ◌++◌, length, refl, sym, ap, ◌∙◌, subst, arith, ⊎_elim, Bor, Some, None}
-use Rattle.std.specs.Prelude.{Option, option_map, slice_get, bytes_eq}
+use Rattle.std.specs.Prelude.{Option, is_some, option_map, slice_get, bytes_eq}
 use Rattle.std.specs.Map.{update}
 use Rattle.std.proofs.lemmas.Bool.{cases_Bool, cond-true, cond-false}
 use Rattle.std.proofs.lemmas.Option.{none-some, same_Some, slice_get_within}
@@ -32,15 +32,14 @@ had_text old text k are is = record {
   has = (k, is);
 }
 
-pub new_text : (old new : Uris) (text : Bor Text) → AreIndexed old → index_of old text.now ≡ None → new.texts.items ≡ old.texts.items ++ text ∷ []
-    → ((q : Text) → index_of new q ≡ update bytes_eq (index_of old) text.now (Some (length old.texts.items)) q) → HasAdded old new text
-new_text old new text are none items updates =
+pub new_text : (old new : Uris) (text : Bor Text) (n : ℕ) → n ≡ length old.texts.items → AreIndexed old → index_of old text.now ≡ None → new.texts.items ≡ old.texts.items ++ text ∷ []
+    → ((q : Text) → index_of new q ≡ update bytes_eq (index_of old) text.now (Some n) q) → HasAdded old new text
+new_text old new text n len are none items updates =
     let xs = old.texts.items in
-    let n = length old.texts.items in
     let now : Bor Text → Text = λ t. t.now in
     let kept : (k : ℕ) (q : Text) → text_at old k ≡ Some q → text_at new k ≡ Some q = λ k q is. ap (λ (l : List (Bor Text)). option_map now (slice_get l k)) items ∙ text_kept xs (text ∷ []) k q is in
-    let some : 0 < n = omega (arith, slice_get_within xs 0 (got_text xs 0 [] are.inherited).0 (got_text xs 0 [] are.inherited).1) in
-    let last : text_at new n ≡ Some text.now = ap (λ (l : List (Bor Text)). option_map now (slice_get l n)) items ∙ ap (option_map now) (got_last xs text) in
+    let some : 0 < n = omega (arith, len, slice_get_within xs 0 (got_text xs 0 [] are.inherited).0 (got_text xs 0 [] are.inherited).1) in
+    let last : text_at new n ≡ Some text.now = ap (λ (l : List (Bor Text)). option_map now (slice_get l n)) items ∙ ap (option_map now) (ap (slice_get (xs ++ text ∷ [])) len ∙ got_last xs text) in
     let here : index_of new text.now ≡ Some n = updates text.now ∙ cond-true (bytes_eq text.now text.now) (Some n) (index_of old text.now) (equal_bytes text.now text.now refl) in
     let there : (q : Text) (k : ℕ) → index_of new q ≡ Some k → (0 < k) × (text_at new k ≡ Some q) = λ q k is. ⊎_elim
     (λ same.
@@ -59,7 +58,7 @@ new_text old new text are none items updates =
     (λ same. absurd (none-some k (sym none ∙ ap (index_of old) (same_bytes text.now q same) ∙ before)))
     (λ other. updates q ∙ cond-false (bytes_eq text.now q) (Some n) (index_of old q) other ∙ before)
     (cases_Bool (bytes_eq text.now q)))
-    (λ new_one. ap (index_of new) (sym got.2 ∙ ap now (sym new_one.1)) ∙ here ∙ ap (λ m. Some m) (sym new_one.0))
+    (λ new_one. ap (index_of new) (sym got.2 ∙ ap now (sym new_one.1)) ∙ here ∙ ap (λ m. Some m) (len ∙ sym new_one.0))
     (got_cases xs text k got.0 got.1) in
     record {
       kept = kept;
@@ -73,3 +72,8 @@ pub has_still : (old new : Uris) (text : Bor Text) (q : Text) → AreIndexed old
 has_still old new text q are added (k, is) =
     let was = are.is_there q k is in
     (k, added.indexed.is_known q k was.0 (added.kept k q was.1))
+
+-- what isn't found is none
+pub no_some : {A : Type 0} (o : Option A) → is_some o ≡ false → o ≡ None
+no_some None e = refl
+no_some (Some x) e = let no : true ≡ false = e in cc

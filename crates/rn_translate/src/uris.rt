@@ -119,5 +119,5 @@ impl<'d> Uris<'d> {
 fn gives_uri(attribute: &XmlAttribute<'_>) -> bool
     ensures { result ≡ gives_uri attribute.now.name.local.now }
 {
-    matches!(attribute.name.local.as_bytes(), b"ns" | b"datatypeLibrary")
+    attribute.name.local == "ns" || attribute.name.local == "datatypeLibrary"
 }
