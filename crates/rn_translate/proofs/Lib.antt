@@ -7,6 +7,7 @@ pub mod WrittenTokens
 pub mod TreeSteps
 pub mod AddedTerms
 pub mod MeantElements
+pub mod ScopedTerms
 pub mod PrintedTerms
 pub mod NumberedNames
 pub mod TrimmedTexts

@@ -1,17 +1,20 @@
 // The walk over the elements of a document, which collects the terms of its compact text.
 ghost use Rattle.std.specs.Prelude.{◌≡◌, ◌==◌, ◌<◌, ◌≤◌, ◌+◌, ◌-◌, ◌*◌, ◌^◌, ◌++◌, ℕ, true, false, if◌then◌else◌, nat_le, List, IfOk, OnOk, Some, codes, vec_len};
 ghost use Rattle.rn_xml.specs.Infoset.{Nodes};
+ghost use Rattle.rn_xml.specs.XmlTags.{AreDistinct, Scope};
 ghost use Rattle.rn_translate.specs.inside.Terms.{Namespace, Term as MeantTerm};
 ghost use Rattle.rn_translate.specs.inside.SchemaElements.{bare_in, nearest, text_of, value_of};
 ghost use Rattle.rn_translate.specs.inside.Layouts.{Written, begins, layout};
 ghost use Rattle.rn_translate.specs.inside.Translation.{before_child, behind_child, standing_of};
-ghost use Rattle.rn_translate.specs.inside.ElementsMeant.{IsMeant, KnowsUris, attributes_at};
+ghost use Rattle.rn_translate.specs.inside.ElementsMeant.{Comes, IsChildOf, IsInScope, IsMeant, KnowsUris, attributes_at, declared_at};
 ghost use Rattle.rn_translate.specs.inside.Meanings.{Adds, AddsInScope, class_meant, is_parted, known, layout_meant, sign_terms, term_meant, uri_meant};
 ghost use Rattle.rn_translate.specs.inside.TermNames.{has_names};
 ghost use Rattle.rn_translate.specs.inside.Walks.{AreNested, IsContent, content_at};
 
 use crate::content::{Holder, needed_attribute};
-use crate::document_parts::{Children, attribute, behind, child_at, children_of, kind_of, text_at, uri_at};
+use crate::document_parts::{
+    Children, attribute, behind, child_at, children_of, kind_of, text_at, uri_at,
+};
 use crate::kinds::{Kind, Role};
 use crate::rng_fault::{RngFault, RngFaultKind, shown};
 use crate::signs::Sign;
@@ -269,12 +272,15 @@ impl<'d, 'a> Translator<'d, 'a> {
         child: &'d XmlElement<'a>,
         kind: Kind,
     ) -> Result<Level, RngFault>
-        ensures added { (f e : Written) (row : XmlElement) → IsChildOf self.old row around child.now index kind f e
+        ensures added { (row : XmlElement) (f e : Written)
+            → IsChildOf self.old row around child.now index kind f e
             → OnOk result (AddsInScope self.old self.new (before_child (layout f f.kind).class
             (layout f f.kind).separator around.begun.count ++ begins e e.kind)) }
-        ensures meant { (f e : Written) (row : XmlElement) → IsChildOf self.old row around child.now index kind f e
+        ensures meant { (row : XmlElement) (f e : Written)
+            → IsChildOf self.old row around child.now index kind f e
             → IfOk result (λ level. IsMeant self.new child.now level.«open» e) }
-        ensures layout { (f e : Written) (row : XmlElement) → IsChildOf self.old row around child.now index kind f e
+        ensures layout { (row : XmlElement) (f e : Written)
+            → IsChildOf self.old row around child.now index kind f e
             → IfOk result (λ level. layout_meant level.layout ≡ layout e e.kind) }
         ensures behind { IfOk result (λ level. sign_terms level.behind
             ≡ behind_child (layout_meant around.layout).class around.begun.count) }
@@ -423,14 +429,20 @@ impl<'d, 'a> Translator<'d, 'a> {
 
     /// The declarations of an element mean something from here on.
     fn enter_scope(&mut self, element: &XmlElement<'a>) -> Result<(), RngFault>
-        ensures { self.new ≡ record self.old { scopes = self.new.scopes } }
+        ensures same { self.new ≡ record self.old { scopes = self.new.scopes } }
+        ensures scope { (scope : Scope) → IsInScope self.old scope
+            → AreDistinct (declared_at self.old.document.now element.now) → OnOk result
+            (IsInScope self.new (declared_at self.old.document.now element.now ++ scope)) }
     {
         let document = self.document;
-        let rows = element.declarations;
-        for index in rows.from..rows.to {
-            if let Some(declaration) = document.declarations.get(index) {
-                self.scopes.enter(declaration.prefix, index)?;
-            }
+        let from = element.declarations.from;
+        'declarations: for (before, declaration) in document
+            .declarations_of(element)
+            .iter()
+            .enumerate()
+        {
+            self.scopes
+                .enter(declaration.prefix, from.saturating_add(before))?;
         }
         Ok(())
     }

@@ -11,14 +11,15 @@ use Rattle.rn_xml.specs.declared.document.XmlElement.{XmlElement}
 use Rattle.rn_xml.specs.declared.document.XmlDocument.{XmlDocument}
 use Rattle.rn_translate.specs.inside.Terms.{Namespace, uri}
 use Rattle.rn_translate.specs.inside.SchemaElements.{Context, holds_text, text_of, value_of}
-use Rattle.rn_translate.specs.inside.Layouts.{Place, Written}
+use Rattle.rn_translate.specs.inside.Layouts.{Place, Written, layout}
 use Rattle.rn_translate.specs.inside.UriTables.{HasUrisOf, IsTable, empty_uri}
-use Rattle.rn_translate.specs.inside.Meanings.{uri_meant}
+use Rattle.rn_translate.specs.inside.Meanings.{layout_meant, uri_meant}
 use Rattle.rn_translate.specs.inside.Walks.{AreNested, content_at}
-use Rattle.rn_translate.specs.inside.Translation.{written}
+use Rattle.rn_translate.specs.inside.Translation.{place_of, written}
 use Rattle.rn_translate.specs.declared.kinds.Kind.{Kind}
 use Rattle.rn_translate.specs.declared.translator.Context.{Context as CodeContext}
 use Rattle.rn_translate.specs.declared.translator.Place.{Place as CodePlace}
+use Rattle.rn_translate.specs.declared.translator.Level.{Level}
 use Rattle.rn_translate.specs.declared.translator.Open.{Open}
 use Rattle.rn_translate.specs.declared.translator.Translator.{Translator}
 
@@ -34,8 +35,8 @@ pub record IsInScope (t : Translator) (scope : Scope) : Type 0 where
   pub declared : (q : Text) → Denotes (binding_at t.document.now) q scope (around t.scopes q)
 
 -- what an element of the code inherits is what the definition says
-pub record IsInherited (t : Translator) (around : CodeContext) (default : Namespace) (c : Context) : Type 0 where
-  pub default : uri_meant t.uris t.default ≡ Some default
+pub record IsInherited (t : Translator) (around : CodeContext) (schema_default : Namespace) (c : Context) : Type 0 where
+  pub default : uri_meant t.uris t.default ≡ Some schema_default
   pub namespace : uri_meant t.uris around.namespace ≡ Some c.namespace
   pub library : uri_meant t.uris around.library ≡ Some c.library
   pub bare : uri_meant t.uris around.bare ≡ Some c.bare
@@ -92,3 +93,11 @@ pub record IsMeant (t : Translator) (row : XmlElement) (o : Open) (e : Written) 
   pub library : uri_meant t.uris o.context.library ≡ Some e.context.library
   pub bare : uri_meant t.uris o.context.bare ≡ Some e.context.bare
   pub scope : IsInScope t e.context.scope
+
+-- a child of the innermost level is what is written next, after the children that have begun
+pub record IsChildOf (t : Translator) (row : XmlElement) (level : Level) (child : XmlElement) (index : ℕ) (kind : Kind) (f e : Written) : Type 0 where
+  pub around : IsMeant t row level.«open» f
+  pub layout_is : layout_meant level.layout ≡ layout f f.kind
+  pub inside : Nodes
+  pub has_inside : HasInside t child index kind inside
+  pub is : e ≡ written f.default f.context (place_of f (layout f f.kind) level.begun.count) kind (declared_at t.document.now child) (attributes_at t.document.now child) inside
