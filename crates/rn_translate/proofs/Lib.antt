@@ -17,3 +17,4 @@ pub mod NamesInScope
 pub mod ContentTexts
 pub mod AddedUris
 pub mod MadeUris
+pub mod KnownNamespaces
