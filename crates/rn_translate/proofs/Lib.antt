@@ -19,3 +19,4 @@ pub mod NamesInScope
 pub mod ContentTexts
 pub mod AddedUris
 pub mod MadeUris
+pub mod KnownNamespaces

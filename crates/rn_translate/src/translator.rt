@@ -120,10 +120,7 @@ impl<'d, 'a> Translator<'d, 'a> {
         ensures { IfOk result (λ made. KnowsUris made) }
     {
         let uris = Uris::of(alloc, document)?;
-        let mut document_uris = Vec::new(alloc);
-        for uri in &document.uris {
-            document_uris.push(uris.uri(uri.as_str()))?;
-        }
+        let document_uris = uris.namespaces(alloc, document)?;
         Ok(Translator {
             alloc,
             source,

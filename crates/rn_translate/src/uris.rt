@@ -1,5 +1,6 @@
 // Namespaces and datatype libraries of a document.
-ghost use Rattle.std.specs.Prelude.{◌≡◌, ◌==◌, IfOk, OnOk, Some};
+ghost use Rattle.std.specs.Prelude.{◌≡◌, ◌==◌, ℕ, IfOk, OnOk, Some, slice_get, unwrap_or};
+ghost use Rattle.rn_xml.specs.DocumentTrees.{uri_at_index};
 ghost use Rattle.rn_translate.specs.inside.Terms.{uri as uri_namespace};
 ghost use Rattle.rn_translate.specs.inside.PrintedTerms.{uri_text};
 ghost use Rattle.rn_translate.specs.inside.UriTables.{AreIndexed, HasAdded, HasUri, HasUrisOf, IsTable, gives_uri};
@@ -94,6 +95,23 @@ impl<'d> Uris<'d> {
             }
         }
         Ok(uris)
+    }
+
+    /// The URIs of a document's namespaces, each at its index. The document is that of which the URIs are.
+    pub fn namespaces(
+        &self,
+        alloc: Global,
+        document: &XmlDocument<'_>,
+    ) -> Result<Vec<Uri>, AllocError>
+        ensures { IsTable self.now → HasUrisOf self.now document.now → IfOk result (λ known.
+            (k : ℕ) → uri_meant self.now (unwrap_or (slice_get known.items k) Uri.EMPTY)
+            ≡ Some (uri_namespace (uri_at_index document.now k))) }
+    {
+        let mut namespaces = Vec::new(alloc);
+        'namespaces: for uri in &document.uris {
+            namespaces.push(self.uri(uri.as_str()))?;
+        }
+        Ok(namespaces)
     }
 
     /// The text of a URI; none of the inherited one.
