@@ -18,3 +18,4 @@ pub mod ContentTexts
 pub mod AddedUris
 pub mod MadeUris
 pub mod KnownNamespaces
+pub mod BoundUris
