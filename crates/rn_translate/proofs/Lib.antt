@@ -22,3 +22,4 @@ pub mod ContentTexts
 pub mod AddedUris
 pub mod MadeUris
 pub mod KnownNamespaces
+pub mod BoundUris

@@ -7,6 +7,7 @@ pub mod Walks
 pub mod UriTables
 pub mod ElementsMeant
 pub mod PrintedTerms
+pub mod NeededPrefixes
 pub mod Terms
 pub mod SchemaElements
 pub mod Layouts
