@@ -27,7 +27,7 @@ known_kind (k ∷ ks) local all =
     negated true e = sym e
     negated false e = refl
 
-foreign_name : (n : Name) → is_foreign (kind_of n) ≡ not (bytes_eq n.uri rng_uri)
+pub foreign_name : (n : Name) → is_foreign (kind_of n) ≡ not (bytes_eq n.uri rng_uri)
 foreign_name n = elim (bytes_eq n.uri rng_uri) as (λ b. is_foreign (cond b (kind_in kinds n.local) (Some Kind.Foreign)) ≡ not b) [ true ↦ known_kind kinds n.local refl | false ↦ refl ]
 
 turned : (b : Bool) (x y : ℕ) → cond b (1 + x) x ≡ cond (not b) x (1 + x)

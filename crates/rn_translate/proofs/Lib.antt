@@ -23,3 +23,6 @@ pub mod AddedUris
 pub mod MadeUris
 pub mod KnownNamespaces
 pub mod BoundUris
+pub mod TreeTexts
+pub mod OpenSteps
+pub mod ChildSteps

@@ -6,6 +6,7 @@ pub mod DraftTokens
 pub mod Walks
 pub mod UriTables
 pub mod ElementsMeant
+pub mod OpenLevels
 pub mod PrintedTerms
 pub mod NeededPrefixes
 pub mod Terms

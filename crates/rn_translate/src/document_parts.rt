@@ -98,9 +98,22 @@ pub(crate) fn child_at<'d, 'a>(
     None
 }
 
+/// The element of this index, if there is one.
+pub(crate) fn element_at<'d, 'a>(
+    document: &'d XmlDocument<'a>,
+    index: usize,
+) -> Option<&'d XmlElement<'a>>
+    ensures { option_map (λ element. element.now) result
+        ≡ slice_get document.now.elements.items index }
+{
+    document.elements.get(index)
+}
+
 /// The text of this index, if there is one.
 pub(crate) fn text_at<'d>(document: &'d XmlDocument<'_>, index: usize) -> Option<&'d XmlText>
-    ensures { option_map (λ text. text.now) result ≡ slice_get document.now.texts.items index }
+    ensures within { IsSome result → index < vec_len document.now.texts }
+    ensures text { option_map (λ text. text.now) result
+        ≡ slice_get document.now.texts.items index }
 {
     document.texts.get(index)
 }

@@ -24,6 +24,7 @@ mod translated;
 mod translation;
 mod translator;
 mod uris;
+mod walk;
 mod written_names;
 
 pub use draft::{MAX_TEXT, Origin};

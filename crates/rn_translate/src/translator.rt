@@ -1,5 +1,5 @@
 // The walk over the elements of a document, which collects the terms of its compact text.
-ghost use Rattle.std.specs.Prelude.{◌≡◌, ◌==◌, ◌<◌, ◌≤◌, ◌+◌, ◌-◌, ◌*◌, ◌^◌, ◌++◌, ℕ, true, false, if◌then◌else◌, nat_le, List, IfOk, OnOk, Some, codes, vec_len};
+ghost use Rattle.std.specs.Prelude.{◌≡◌, ◌==◌, ◌<◌, ◌≤◌, ◌+◌, ◌-◌, ◌*◌, ◌^◌, ◌++◌, ℕ, true, false, if◌then◌else◌, nat_le, List, IfOk, OnOk, Some, codes, slice_get, vec_len};
 ghost use Rattle.rn_xml.specs.Infoset.{Nodes};
 ghost use Rattle.rn_xml.specs.XmlTags.{AreDistinct, Scope};
 ghost use Rattle.rn_translate.specs.inside.Terms.{Namespace, Term as MeantTerm};
@@ -10,13 +10,12 @@ ghost use Rattle.rn_translate.specs.inside.ElementsMeant.{Comes, IsChildOf, IsIn
 ghost use Rattle.rn_translate.specs.inside.Meanings.{Adds, AddsInScope, class_meant, is_parted, known, layout_meant, sign_terms, term_meant, uri_meant};
 ghost use Rattle.rn_translate.specs.inside.TermNames.{has_names};
 ghost use Rattle.rn_translate.specs.inside.Walks.{AreNested, IsContent, content_at};
+ghost use Rattle.rn_translate.specs.inside.OpenLevels.{IsAtStart, IsLevelOf, IsOpenOf};
 
 use crate::content::{Holder, needed_attribute};
-use crate::document_parts::{
-    Children, attribute, behind, child_at, children_of, kind_of, text_at, uri_at,
-};
+use crate::document_parts::{Children, attribute, children_of, element_at, text_at};
 use crate::kinds::{Kind, Role};
-use crate::rng_fault::{RngFault, RngFaultKind, shown};
+use crate::rng_fault::{RngFault, RngFaultKind};
 use crate::signs::Sign;
 use crate::standing::{Layout, Standing};
 use crate::terms::{Placed, Term};
@@ -73,22 +72,22 @@ pub(crate) struct Open {
 #[derive(Clone, Copy)]
 pub(crate) struct Begun {
     /// How many.
-    count: usize,
+    pub count: usize,
     /// Whether an except is among them.
-    has_except: bool,
+    pub has_except: bool,
 }
 
 /// An element of RELAX NG that has begun, with what comes behind its children.
 #[derive(Clone, Copy)]
 pub(crate) struct Level {
     /// The element.
-    open: Open,
+    pub open: Open,
     /// How its children are written.
-    layout: Layout,
+    pub layout: Layout,
     /// Which of them have begun.
-    begun: Begun,
+    pub begun: Begun,
     /// What comes behind the element.
-    behind: Sign,
+    pub behind: Sign,
 }
 
 /// What is known in the middle of a document.
@@ -96,7 +95,7 @@ pub(crate) struct Level {
 pub(crate) struct Translator<'d, 'a> {
     pub alloc: Global,
     /// The text of the document.
-    source: &'d str,
+    pub source: &'d str,
     pub document: &'d XmlDocument<'a>,
     pub uris: Uris<'d>,
     /// For each of the document's namespaces, its URI.
@@ -117,7 +116,8 @@ impl<'d, 'a> Translator<'d, 'a> {
         source: &'d str,
         document: &'d XmlDocument<'a>,
     ) -> Result<Translator<'d, 'a>, RngFault>
-        ensures { IfOk result (λ made. KnowsUris made) }
+        ensures knows { IfOk result (λ made. KnowsUris made) }
+        ensures start { IfOk result (λ made. (made.document.now ≡ document.now) × IsAtStart made) }
     {
         let uris = Uris::of(alloc, document)?;
         let document_uris = uris.namespaces(alloc, document)?;
@@ -154,115 +154,8 @@ impl<'d, 'a> Translator<'d, 'a> {
         self.put(at, Term::Sign(sign))
     }
 
-    /// Collects what each element comes to. Refused at the first fault.
-    pub fn walk(&mut self) -> Result<(), RngFault> {
-        let document = self.document;
-        let Some(root) = document.elements.get(0) else {
-            return Ok(());
-        };
-        let kind = self.known_kind(root)?;
-        if !Role::Pattern.admits(kind) {
-            return Err(self.no_schema(root)?);
-        }
-        self.default = self.namespace_at(root, Uri::INHERITED);
-        let around = Context {
-            namespace: Uri::INHERITED,
-            library: Uri::EMPTY,
-            bare: self.default,
-        };
-        let place = Place {
-            role: Role::Pattern,
-            standing: Standing::Alone,
-            is_first: true,
-            is_last: true,
-            is_root: true,
-        };
-        let root = self.begin(root, 0, kind, around, place)?;
-        self.walk_from(document, root)
-    }
-
-    /// What an element is. Refused where it is one of RELAX NG that has no name of those.
-    fn known_kind(&self, element: &XmlElement<'a>) -> Result<Kind, RngFault> {
-        match kind_of(self.document, element) {
-            Some(kind) => Ok(kind),
-            None => {
-                let local = shown(self.alloc, element.name.local)?;
-                Err(RngFault::new(element.at, RngFaultKind::Element(local)))
-            }
-        }
-    }
-
-    /// The fault of a root that is no pattern.
-    fn no_schema(&self, element: &XmlElement<'a>) -> Result<RngFault, RngFault> {
-        let kind = RngFaultKind::NoSchema {
-            local: shown(self.alloc, element.name.local)?,
-            uri: shown(self.alloc, uri_at(self.document, element.name.uri))?,
-        };
-        Ok(RngFault::new(element.at, kind))
-    }
-
-    /// Collects what an element comes to that has begun, and all that is in it.
-    fn walk_from(&mut self, document: &'d XmlDocument<'a>, root: Level) -> Result<(), RngFault> {
-        let mut levels = Vec::new(self.alloc);
-        levels.push(root)?;
-        let mut next = root.open.index.saturating_add(1);
-        'levels: while let Some(level) = levels.last().copied() {
-            next = self.step(document, &mut levels, level, next)?;
-        }
-        Ok(())
-    }
-
-    /// Begins the next child of the innermost level, or ends that. Answers the index of the element that comes then.
-    fn step(
-        &mut self,
-        document: &'d XmlDocument<'a>,
-        levels: &mut Vec<Level>,
-        level: Level,
-        next: usize,
-    ) -> Result<usize, RngFault>
-        requires { 0 < vec_len levels.old }
-        ensures { IfOk result (λ behind. 2 * (vec_len document.now.elements - behind)
-            + vec_len levels.new
-            < 2 * (vec_len document.now.elements - next) + vec_len levels.old) }
-    {
-        self.pass_texts(level.open, next)?;
-        let Some(child) = child_at(document, level.open.end, next) else {
-            let _ = levels.pop();
-            self.end(level)?;
-            return Ok(next);
-        };
-        self.enter(levels, level, next, child)
-    }
-
-    /// Begins a child of the innermost level, or passes it if it is none of RELAX NG. Answers the index of the element
-    /// that comes then.
-    fn enter(
-        &mut self,
-        levels: &mut Vec<Level>,
-        around: Level,
-        index: usize,
-        child: &'d XmlElement<'a>,
-    ) -> Result<usize, RngFault>
-        requires { index + 1 < 2 ^ 64 }
-        ensures further { IfOk result (λ next. index < next) }
-        ensures levels { vec_len levels.new ≤ vec_len levels.old + 1 }
-    {
-        let kind = self.known_kind(child)?;
-        if kind == Kind::Foreign {
-            let behind = behind(index, child);
-            self.pass_foreign(index, behind);
-            return Ok(behind);
-        }
-        let level = self.begin_child(around, index, child, kind)?;
-        if let Some(last) = levels.last_mut() {
-            last.begun = around.begun.and(kind);
-        }
-        levels.push(level)?;
-        Ok(index + 1)
-    }
-
     /// Begins a child of an element. Refused where it can't be there.
-    fn begin_child(
+    pub fn begin_child(
         &mut self,
         around: Level,
         index: usize,
@@ -281,6 +174,7 @@ impl<'d, 'a> Translator<'d, 'a> {
             → IfOk result (λ level. layout_meant level.layout ≡ layout e e.kind) }
         ensures behind { IfOk result (λ level. sign_terms level.behind
             ≡ behind_child (layout_meant around.layout).class around.begun.count) }
+        ensures of { IfOk result (IsLevelOf child.now index) }
     {
         let begun = around.begun;
         let holder = around.open.holder;
@@ -298,7 +192,7 @@ impl<'d, 'a> Translator<'d, 'a> {
     }
 
     /// Begins an element of RELAX NG: writes it up to its children.
-    fn begin(
+    pub fn begin(
         &mut self,
         element: &'d XmlElement<'a>,
         index: usize,
@@ -312,6 +206,8 @@ impl<'d, 'a> Translator<'d, 'a> {
             → IfOk result (λ level. IsMeant self.new element.now level.«open» e) }
         ensures layout { (e : Written) → Comes self.old element.now index kind around place e
             → IfOk result (λ level. layout_meant level.layout ≡ layout e e.kind) }
+        ensures behind { IfOk result (λ level. level.behind ≡ Sign.Nothing) }
+        ensures of { IfOk result (IsLevelOf element.now index) }
     {
         let open = self.opened(index, element, kind, around, place)?;
         let layout = self.write_front(element, open)?;
@@ -327,9 +223,13 @@ impl<'d, 'a> Translator<'d, 'a> {
     }
 
     /// Ends an element, behind its children.
-    fn end(&mut self, level: Level) -> Result<(), RngFault>
-        ensures { OnOk result (AddsInScope self.old self.new
+    pub fn end(&mut self, level: Level) -> Result<(), RngFault>
+        ensures added { OnOk result (AddsInScope self.old self.new
             ((layout_meant level.layout).behind ++ sign_terms level.behind)) }
+        ensures scope { (row : XmlElement) (scope : Scope)
+            → slice_get self.old.document.now.elements.items level.«open».index ≡ Some row
+            → IsInScope self.old (declared_at self.old.document.now row ++ scope)
+            → OnOk result (IsInScope self.new scope) }
     {
         self.put_end(level)?;
         self.leave_scope(level.open.index);
@@ -350,63 +250,15 @@ impl<'d, 'a> Translator<'d, 'a> {
 
     /// The declarations of an element mean nothing from here on.
     fn leave_scope(&mut self, index: usize)
-        ensures { self.new ≡ record self.old { scopes = self.new.scopes } }
+        ensures same { self.new ≡ record self.old { scopes = self.new.scopes } }
+        ensures scope { (row : XmlElement) (scope : Scope)
+            → slice_get self.old.document.now.elements.items index ≡ Some row
+            → IsInScope self.old (declared_at self.old.document.now row ++ scope)
+            → IsInScope self.new scope }
     {
         let document = self.document;
-        if let Some(element) = document.elements.get(index) {
+        if let Some(element) = element_at(document, index) {
             self.scopes.leave(document.declarations_of(element));
-        }
-    }
-
-    /// Passes the texts of an element that come before another one. Refused where one can't be.
-    fn pass_texts(&mut self, open: Open, next: usize) -> Result<(), RngFault> {
-        let document = self.document;
-        'texts: while let Some(text) = document.texts.get(self.text) {
-            if text.parent != open.index || text.at >= self.end_before(next) {
-                break;
-            }
-            self.check_text(open.holder.kind, text.at, text.content.as_str())?;
-            self.text += 1;
-        }
-        Ok(())
-    }
-
-    /// The place of an element; without one, a place behind all.
-    fn end_before(&self, index: usize) -> usize {
-        match self.document.elements.get(index) {
-            Some(element) => element.at,
-            None => usize::MAX,
-        }
-    }
-
-    /// Passes the texts in an element of another vocabulary.
-    fn pass_foreign(&mut self, index: usize, end: usize) {
-        let document = self.document;
-        'texts: while let Some(text) = document.texts.get(self.text) {
-            if text.parent < index || text.parent >= end {
-                break;
-            }
-            self.text += 1;
-        }
-    }
-
-    /// Whether a text can be in an element of RELAX NG (4.2).
-    fn check_text(&self, kind: Kind, at: usize, content: &str) -> Result<(), RngFault> {
-        if kind.holds_text() || content.chars().all(crate::document_parts::is_white_space) {
-            return Ok(());
-        }
-        let at = self.after_white_space(at);
-        Err(RngFault::new(at, RngFaultKind::Text(kind)))
-    }
-
-    /// The first byte of the document's text from this one on that is no white space.
-    fn after_white_space(&self, at: usize) -> usize {
-        match self.source.get(at..) {
-            Some(rest) => {
-                let behind = rest.trim_start_matches(crate::document_parts::is_white_space);
-                self.source.len().saturating_sub(behind.len())
-            }
-            None => at,
         }
     }
 
@@ -454,6 +306,7 @@ impl<'d, 'a> Translator<'d, 'a> {
         ensures same { OnOk result (self.new ≡ record self.old { scopes = self.new.scopes }) }
         ensures meant { (e : Written) → Comes self.old element.now index kind around place e
             → IfOk result (λ o. IsMeant self.new element.now o e) }
+        ensures of { IfOk result (IsOpenOf element.now index) }
     {
         let holder = Holder {
             kind,
@@ -517,7 +370,7 @@ impl<'d, 'a> Translator<'d, 'a> {
     }
 
     /// The nearest `ns` of an element, where this one is inherited (4.9).
-    fn namespace_at(&self, element: &XmlElement<'a>, inherited: Uri) -> Uri
+    pub fn namespace_at(&self, element: &XmlElement<'a>, inherited: Uri) -> Uri
         ensures { (n : Namespace) → KnowsUris self.now
             → uri_meant self.now.uris inherited ≡ Some n → uri_meant self.now.uris result
             ≡ Some (nearest n (value_of (codes "ns")
@@ -545,7 +398,9 @@ impl<'d, 'a> Translator<'d, 'a> {
 
 impl Begun {
     /// With one more of this kind.
-    fn and(self, kind: Kind) -> Begun {
+    pub fn and(self, kind: Kind) -> Begun
+        ensures { self.count + 1 < 2 ^ 64 → result.count ≡ self.count + 1 }
+    {
         Begun {
             count: self.count.saturating_add(1),
             has_except: self.has_except || kind == Kind::Except,

@@ -8,7 +8,7 @@ use Rattle.rn_translate.proofs.translator.Translator.content.Goals.{in_default-v
 pub returns-in-Some-clause-text : goal.returns-in-Some-clause-text
 returns-in-Some-clause-text c = λ k after nested is.
     let d = c.args.self.now.document.now in
-    let there : slice_get d.texts.items c.args.self.now.text ≡ Some c.in-Some.text.now = sym c.in-Some.ensures in
+    let there : slice_get d.texts.items c.args.self.now.text ≡ Some c.in-Some.text.now = sym c.in-Some.ensures.text in
     c.as_str.ensures.value ∙ sym (this_content d c.args.self.now.text c.args.index c.in-Some.text.now there c.if-text-index.true) ∙ content_text nested is
 
 pub returns-in_default-clause-at : goal.returns-in_default-clause-at
@@ -17,10 +17,10 @@ returns-in_default-clause-at c =
     let t = c.args.self.now.text in
     elim c.in_default.branch [
       | in_default-via-in-Some+else-text-index w ↦
-          let there : slice_get d.texts.items t ≡ Some w.in-Some.text.now = sym w.in-Some.ensures in
+          let there : slice_get d.texts.items t ≡ Some w.in-Some.text.now = sym w.in-Some.ensures.text in
           sym (other_content d t c.args.index w.in-Some.text.now there w.if-text-index.false)
       | in_default-via-in_default w ↦
-          let none : slice_get d.texts.items t ≡ None = sym w.in_default.ensures in
+          let none : slice_get d.texts.items t ≡ None = sym w.in_default.ensures.text in
           sym (no_content d t c.args.index none)
     ]
 
