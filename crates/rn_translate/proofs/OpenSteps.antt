@@ -1,5 +1,5 @@
 -- The steps of the walk: what is left of the open elements behind each of them.
-use Rattle.std.proofs.Common.{◌≡◌, ℕ, ◌+◌, ◌<◌, ◌≤◌, Bool, true, false, cond, List, [], ◌∷◌, ◌++◌, refl, sym, ap, ◌∙◌, subst, arith, append_assoc, Some, None}
+use Rattle.std.proofs.Common.{◌≡◌, ℕ, ◌+◌, ◌<◌, ◌≤◌, Bool, true, false, cond, List, [], ◌∷◌, ◌++◌, refl, sym, ap, ◌∙◌, subst, arith, append_assoc, append-nil, Some, None}
 use Rattle.std.specs.Prelude.{Option, if◌then◌else◌, map, nat_lt, slice_get, unwrap_or, bytes_eq, not}
 use Rattle.std.proofs.lemmas.Bool.{cond-true, cond-false}
 use Rattle.std.proofs.lemmas.List.{map-append, same_from_push}
@@ -204,3 +204,13 @@ none_left_of s t outer l next whole w none =
     let i = innermost w.are_open in
     subst (λ n. n ≤ next) (sym i.level.end_is)
     (none_left (none_counted i.left) (subst (λ n. None ≡ (if nat_lt next n then slice_get s.document.now.elements.items next else None)) i.level.end_is none))
+
+-- where no level is left, the terms are the whole
+none_open : {t : Translator} {levels : List Level} {next text : ℕ} {os : List OpenElement} → AreOpen t levels next text os → levels ≡ [] → os ≡ []
+none_open AreOpen.none none = refl
+none_open (AreOpen.more {outer = outer} {l = l} is level left outside below begun scope outer_open) none = absurd (no_push outer l (sym none ∙ is))
+
+pub whole_walked : (s t : Translator) (levels : List Level) (next : ℕ) (whole : List Term) → IsWalked s t levels next whole → levels ≡ [] → terms_meant t.uris t.terms.items ≡ known whole
+whole_walked s t levels next whole w none =
+    let left : known (terms_left w.opened) ≡ [] = ap (λ os. known (terms_left os)) (none_open w.are_open none) in
+    sym (append-nil (terms_meant t.uris t.terms.items)) ∙ ap (λ l. terms_meant t.uris t.terms.items ++ l) (sym left) ∙ w.terms

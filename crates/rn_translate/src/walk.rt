@@ -51,7 +51,7 @@ impl<'d, 'a> Translator<'d, 'a> {
         };
         let level = self.begin(root, 0, kind, around, place)?;
         self.check_text_alone(document, kind, 0, root)?;
-        self.walk_from(document, level)
+        self.walk_from(document, level, 1)
     }
 
     /// What an element is. Refused where it is one of RELAX NG that has no name of those.
@@ -77,14 +77,25 @@ impl<'d, 'a> Translator<'d, 'a> {
         Ok(RngFault::new(element.at, kind))
     }
 
-    /// Collects what an element comes to that has begun, and all that is in it.
-    fn walk_from(&mut self, document: &'d XmlDocument<'a>, root: Level) -> Result<(), RngFault>
-        ensures { (start : Translator) (whole : List MeantTerm)
-            → document.now ≡ start.document.now
-            → IsWalked start self.old (root ∷ []) (root.«open».index + 1) whole
-            → OnOk result (IsWalked start self.new [] 0 whole) }
+    /// Collects what an element comes to that has begun, and all that is in it. The element of the index is the next one.
+    fn walk_from(
+        &mut self,
+        document: &'d XmlDocument<'a>,
+        root: Level,
+        first: usize,
+    ) -> Result<(), RngFault>
+        ensures same { (start : Translator) (whole : List MeantTerm)
+            → document.now ≡ start.document.now → IsWalked start self.old (root ∷ []) first whole
+            → OnOk result (self.new ≡ record start {
+              terms = self.new.terms;
+              scopes = self.new.scopes;
+              text = self.new.text;
+            }) }
+        ensures meant { (start : Translator) (whole : List MeantTerm)
+            → document.now ≡ start.document.now → IsWalked start self.old (root ∷ []) first whole
+            → OnOk result (terms_meant self.new.uris self.new.terms.items ≡ known whole) }
     {
-        let mut next = root.open.index.saturating_add(1);
+        let mut next = first;
         let mut levels = Vec::new(self.alloc);
         levels.push(root)?;
         'levels: while let Some(level) = levels.pop() {
