@@ -6,6 +6,8 @@ pub mod CutLiterals
 pub mod WrittenTokens
 pub mod TreeSteps
 pub mod AddedTerms
+pub mod MeantElements
+pub mod ScopedTerms
 pub mod PrintedTerms
 pub mod NumberedNames
 pub mod TrimmedTexts

@@ -1,15 +1,20 @@
 // The walk over the elements of a document, which collects the terms of its compact text.
-ghost use Rattle.std.specs.Prelude.{◌≡◌, ◌<◌, ◌≤◌, ◌+◌, ◌-◌, ◌*◌, ◌^◌, ℕ, true, List, IfOk, OnOk, Some, codes, vec_len};
+ghost use Rattle.std.specs.Prelude.{◌≡◌, ◌==◌, ◌<◌, ◌≤◌, ◌+◌, ◌-◌, ◌*◌, ◌^◌, ◌++◌, ℕ, true, false, if◌then◌else◌, nat_le, List, IfOk, OnOk, Some, codes, vec_len};
 ghost use Rattle.rn_xml.specs.Infoset.{Nodes};
+ghost use Rattle.rn_xml.specs.XmlTags.{AreDistinct, Scope};
 ghost use Rattle.rn_translate.specs.inside.Terms.{Namespace, Term as MeantTerm};
 ghost use Rattle.rn_translate.specs.inside.SchemaElements.{bare_in, nearest, text_of, value_of};
-ghost use Rattle.rn_translate.specs.inside.ElementsMeant.{KnowsUris, attributes_at};
-ghost use Rattle.rn_translate.specs.inside.Meanings.{Adds, is_parted, known, sign_terms, term_meant, uri_meant};
+ghost use Rattle.rn_translate.specs.inside.Layouts.{Written, begins, layout};
+ghost use Rattle.rn_translate.specs.inside.Translation.{before_child, behind_child, standing_of};
+ghost use Rattle.rn_translate.specs.inside.ElementsMeant.{Comes, IsChildOf, IsInScope, IsMeant, KnowsUris, attributes_at, declared_at};
+ghost use Rattle.rn_translate.specs.inside.Meanings.{Adds, AddsInScope, class_meant, is_parted, known, layout_meant, sign_terms, term_meant, uri_meant};
 ghost use Rattle.rn_translate.specs.inside.TermNames.{has_names};
 ghost use Rattle.rn_translate.specs.inside.Walks.{AreNested, IsContent, content_at};
 
 use crate::content::{Holder, needed_attribute};
-use crate::document_parts::{Children, attribute, behind, child_at, children_of, kind_of, text_at, uri_at};
+use crate::document_parts::{
+    Children, attribute, behind, child_at, children_of, kind_of, text_at, uri_at,
+};
 use crate::kinds::{Kind, Role};
 use crate::rng_fault::{RngFault, RngFaultKind, shown};
 use crate::signs::Sign;
@@ -263,7 +268,20 @@ impl<'d, 'a> Translator<'d, 'a> {
         index: usize,
         child: &'d XmlElement<'a>,
         kind: Kind,
-    ) -> Result<Level, RngFault> {
+    ) -> Result<Level, RngFault>
+        ensures added { (row : XmlElement) (f e : Written)
+            → IsChildOf self.old row around child.now index kind f e
+            → OnOk result (AddsInScope self.old self.new (before_child (layout f f.kind).class
+            (layout f f.kind).separator around.begun.count ++ begins e e.kind)) }
+        ensures meant { (row : XmlElement) (f e : Written)
+            → IsChildOf self.old row around child.now index kind f e
+            → IfOk result (λ level. IsMeant self.new child.now level.«open» e) }
+        ensures layout { (row : XmlElement) (f e : Written)
+            → IsChildOf self.old row around child.now index kind f e
+            → IfOk result (λ level. layout_meant level.layout ≡ layout e e.kind) }
+        ensures behind { IfOk result (λ level. sign_terms level.behind
+            ≡ behind_child (layout_meant around.layout).class around.begun.count) }
+    {
         let before = around.begun.count;
         if let Some(refusal) = around
             .open
@@ -289,7 +307,14 @@ impl<'d, 'a> Translator<'d, 'a> {
         kind: Kind,
         around: Context,
         place: Place,
-    ) -> Result<Level, RngFault> {
+    ) -> Result<Level, RngFault>
+        ensures added { (e : Written) → Comes self.old element.now index kind around place e
+            → OnOk result (AddsInScope self.old self.new (begins e e.kind)) }
+        ensures meant { (e : Written) → Comes self.old element.now index kind around place e
+            → IfOk result (λ level. IsMeant self.new element.now level.«open» e) }
+        ensures layout { (e : Written) → Comes self.old element.now index kind around place e
+            → IfOk result (λ level. layout_meant level.layout ≡ layout e e.kind) }
+    {
         let open = self.opened(index, element, kind, around, place)?;
         let layout = self.write_front(element, open)?;
         Ok(Level {
@@ -304,18 +329,31 @@ impl<'d, 'a> Translator<'d, 'a> {
     }
 
     /// Ends an element, behind its children.
-    fn end(&mut self, level: Level) -> Result<(), RngFault> {
-        let at = level.open.at;
-        self.put_sign(at, level.layout.inner)?;
-        self.put_sign(at, level.layout.closing)?;
-        self.put_sign(at, level.layout.outer)?;
-        self.put_sign(at, level.behind)?;
+    fn end(&mut self, level: Level) -> Result<(), RngFault>
+        ensures { OnOk result (AddsInScope self.old self.new
+            ((layout_meant level.layout).behind ++ sign_terms level.behind)) }
+    {
+        self.put_end(level)?;
         self.leave_scope(level.open.index);
         Ok(())
     }
 
+    /// Writes what comes behind the children of an element.
+    fn put_end(&mut self, level: Level) -> Result<(), RngFault>
+        ensures { OnOk result (Adds self.old self.new
+            ((layout_meant level.layout).behind ++ sign_terms level.behind)) }
+    {
+        let at = level.open.at;
+        self.put_sign(at, level.layout.inner)?;
+        self.put_sign(at, level.layout.closing)?;
+        self.put_sign(at, level.layout.outer)?;
+        self.put_sign(at, level.behind)
+    }
+
     /// The declarations of an element mean nothing from here on.
-    fn leave_scope(&mut self, index: usize) {
+    fn leave_scope(&mut self, index: usize)
+        ensures { self.new ≡ record self.old { scopes = self.new.scopes } }
+    {
         let document = self.document;
         if let Some(element) = document.elements.get(index) {
             self.scopes.leave(document.declarations_of(element));
@@ -387,13 +425,21 @@ impl<'d, 'a> Translator<'d, 'a> {
     }
 
     /// The declarations of an element mean something from here on.
-    fn enter_scope(&mut self, element: &XmlElement<'a>) -> Result<(), RngFault> {
+    fn enter_scope(&mut self, element: &XmlElement<'a>) -> Result<(), RngFault>
+        ensures same { self.new ≡ record self.old { scopes = self.new.scopes } }
+        ensures scope { (scope : Scope) → IsInScope self.old scope
+            → AreDistinct (declared_at self.old.document.now element.now) → OnOk result
+            (IsInScope self.new (declared_at self.old.document.now element.now ++ scope)) }
+    {
         let document = self.document;
-        let rows = element.declarations;
-        for index in rows.from..rows.to {
-            if let Some(declaration) = document.declarations.get(index) {
-                self.scopes.enter(declaration.prefix, index)?;
-            }
+        let from = element.declarations.from;
+        'declarations: for (before, declaration) in document
+            .declarations_of(element)
+            .iter()
+            .enumerate()
+        {
+            self.scopes
+                .enter(declaration.prefix, from.saturating_add(before))?;
         }
         Ok(())
     }
@@ -406,7 +452,11 @@ impl<'d, 'a> Translator<'d, 'a> {
         kind: Kind,
         around: Context,
         place: Place,
-    ) -> Result<Open, RngFault> {
+    ) -> Result<Open, RngFault>
+        ensures same { self.new ≡ record self.old { scopes = self.new.scopes } }
+        ensures meant { (e : Written) → Comes self.old element.now index kind around place e
+            → IfOk result (λ o. IsMeant self.new element.now o e) }
+    {
         let holder = Holder {
             kind,
             role: place.role,
@@ -514,7 +564,14 @@ impl Open {
     }
 
     /// Where a child after so many others is.
-    fn place_inside(self, layout: Layout, before: usize) -> Place {
+    fn place_inside(self, layout: Layout, before: usize) -> Place
+        ensures standing { result.standing ≡ standing_of (class_meant layout.class)
+            layout.standing before }
+        ensures first { result.is_first ≡ (before == 0) }
+        ensures last { result.is_last ≡ nat_le self.children.count
+            (before + 1 + (if self.children.has_except then 1 else 0)) }
+        ensures root { result.is_root ≡ false }
+    {
         let excepts = usize::from(self.children.has_except);
         let begun = before.saturating_add(1);
         Place {

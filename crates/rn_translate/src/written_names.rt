@@ -161,10 +161,7 @@ impl<'d, 'a> Translator<'d, 'a> {
     fn document_uri(&self, index: usize) -> Uri
         ensures { result ≡ unwrap_or (slice_get self.now.document_uris.items index) Uri.EMPTY }
     {
-        self.document_uris
-            .get(index)
-            .copied()
-            .unwrap_or(Uri::EMPTY)
+        self.document_uris.get(index).copied().unwrap_or(Uri::EMPTY)
     }
 
     /// The namespace that a prefix means here, by its index in the document, if it is declared.

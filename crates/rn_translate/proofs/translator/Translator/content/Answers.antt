@@ -16,12 +16,12 @@ returns-in_default-clause-at c =
     let d = c.args.self.now.document.now in
     let t = c.args.self.now.text in
     elim c.in_default.branch [
-      in_default-via-in-Some+else-text-index w ↦
-      let there : slice_get d.texts.items t ≡ Some w.in-Some.text.now = sym w.in-Some.ensures in
-      sym (other_content d t c.args.index w.in-Some.text.now there w.if-text-index.false)
+      | in_default-via-in-Some+else-text-index w ↦
+          let there : slice_get d.texts.items t ≡ Some w.in-Some.text.now = sym w.in-Some.ensures in
+          sym (other_content d t c.args.index w.in-Some.text.now there w.if-text-index.false)
       | in_default-via-in_default w ↦
-      let none : slice_get d.texts.items t ≡ None = sym w.in_default.ensures in
-      sym (no_content d t c.args.index none)
+          let none : slice_get d.texts.items t ≡ None = sym w.in_default.ensures in
+          sym (no_content d t c.args.index none)
     ]
 
 pub returns-in_default-clause-text : goal.returns-in_default-clause-text

@@ -39,8 +39,8 @@ attributes-preserved c =
     let within : c.attributes.attribute-index < length rows = omega (arith, c.attributes-test.true, c.deref-attribute-items.ensures.len, c.args.document.now.attributes.ok.0) in
     let is : a ≡ get_or rows c.attributes.attribute-index a = cc in
     let keeps : Keeps old c.if-gives_uri.uris a = elim c.if-gives_uri.branch [
-      then-gives_uri+in_ok-add-2 w ↦ subst (λ (u : Uris). Keeps old u a) (sym w.uris-is)
-      (adds_given old w.add-then-gives_uri.new.self w.as_str-then-gives_uri.result a table (w.in_ok-add-2.ensures table.indexed) w.as_str-then-gives_uri.ensures.value)
+      | then-gives_uri+in_ok-add-2 w ↦ subst (λ (u : Uris). Keeps old u a) (sym w.uris-is)
+          (adds_given old w.add-then-gives_uri.new.self w.as_str-then-gives_uri.result a table (w.in_ok-add-2.ensures table.indexed) w.as_str-then-gives_uri.ensures.value)
       | else-gives_uri w ↦ subst (λ (u : Uris). Keeps old u a) (sym w.uris-is) (gives_none old a table (sym c.gives_uri.ensures ∙ w.if-gives_uri.false))
     ] in
     record {
