@@ -21,3 +21,4 @@ pub mod AddedUris
 pub mod MadeUris
 pub mod KnownNamespaces
 pub mod BoundUris
+pub mod PrintedMeanings
