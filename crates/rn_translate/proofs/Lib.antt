@@ -8,6 +8,8 @@ pub mod TreeSteps
 pub mod AddedTerms
 pub mod MeantElements
 pub mod ScopedTerms
+pub mod NextElements
+pub mod EnteredScopes
 pub mod PrintedTerms
 pub mod NumberedNames
 pub mod TrimmedTexts

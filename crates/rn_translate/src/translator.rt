@@ -282,19 +282,17 @@ impl<'d, 'a> Translator<'d, 'a> {
         ensures behind { IfOk result (λ level. sign_terms level.behind
             ≡ behind_child (layout_meant around.layout).class around.begun.count) }
     {
-        let before = around.begun.count;
-        if let Some(refusal) = around
-            .open
-            .holder
-            .refusal(kind, before, around.begun.has_except)
-        {
+        let begun = around.begun;
+        let holder = around.open.holder;
+        if let Some(refusal) = holder.refusal(kind, begun.count, begun.has_except) {
             return Err(RngFault::new(child.at, refusal));
         }
-        self.put_sign(child.at, around.layout.before(before))?;
-        let place = around.open.place_inside(around.layout, before);
+        let separator = around.layout.before(begun.count);
+        self.put_sign(child.at, separator)?;
+        let place = around.open.place_inside(around.layout, begun.count);
         let level = self.begin(child, index, kind, around.open.context, place)?;
         Ok(Level {
-            behind: around.layout.behind(before),
+            behind: around.layout.behind(begun.count),
             ..level
         })
     }
@@ -426,7 +424,7 @@ impl<'d, 'a> Translator<'d, 'a> {
 
     /// The declarations of an element mean something from here on.
     fn enter_scope(&mut self, element: &XmlElement<'a>) -> Result<(), RngFault>
-        ensures same { self.new ≡ record self.old { scopes = self.new.scopes } }
+        ensures same { OnOk result (self.new ≡ record self.old { scopes = self.new.scopes }) }
         ensures scope { (scope : Scope) → IsInScope self.old scope
             → AreDistinct (declared_at self.old.document.now element.now) → OnOk result
             (IsInScope self.new (declared_at self.old.document.now element.now ++ scope)) }
@@ -453,7 +451,7 @@ impl<'d, 'a> Translator<'d, 'a> {
         around: Context,
         place: Place,
     ) -> Result<Open, RngFault>
-        ensures same { self.new ≡ record self.old { scopes = self.new.scopes } }
+        ensures same { OnOk result (self.new ≡ record self.old { scopes = self.new.scopes }) }
         ensures meant { (e : Written) → Comes self.old element.now index kind around place e
             → IfOk result (λ o. IsMeant self.new element.now o e) }
     {
