@@ -11,5 +11,5 @@ abbrev pub invariant-declarations : goal.invariant-declarations
 invariant-declarations l = record {
   same : l.self ≡ record l.initial.self { scopes = l.self.scopes };
   scope : (s : Scope) → IsInScope l.initial.self s → AreDistinct (map (binding_of l.initial.self.document.now) l.declaration-items)
-      → IsInScope l.self (map (binding_of l.initial.self.document.now) (take l.before l.declaration-items) ++ s)
+      → IsInScope l.self (map (binding_of l.initial.self.document.now) (take l.before l.declaration-items) ++ s);
 }

@@ -36,11 +36,11 @@ returns-clause-meant c = λ e comes.
     let knows = knows_in a b inherited.scope.knows in
     let inside = comes.has_inside in
     let namespace = subst (λ t. KnowsUris t → uri_meant t.uris c.args.around.namespace ≡ Some context.namespace
-        → uri_meant t.uris c.namespace_at.result ≡ Some (nearest context.namespace (value_of (codes "ns") (attributes_at t.document.now row)))) same (c.namespace_at.ensures context.namespace) in
+    → uri_meant t.uris c.namespace_at.result ≡ Some (nearest context.namespace (value_of (codes "ns") (attributes_at t.document.now row)))) same (c.namespace_at.ensures context.namespace) in
     let library = subst (λ t. KnowsUris t → uri_meant t.uris c.args.around.library ≡ Some context.library
-        → uri_meant t.uris c.library_at.result ≡ Some (nearest context.library (value_of (codes "datatypeLibrary") (attributes_at t.document.now row)))) same (c.library_at.ensures context.library) in
+    → uri_meant t.uris c.library_at.result ≡ Some (nearest context.library (value_of (codes "datatypeLibrary") (attributes_at t.document.now row)))) same (c.library_at.ensures context.library) in
     let bare = subst (λ t. KnowsUris t → uri_meant t.uris t.default ≡ Some comes.default → uri_meant t.uris c.args.around.bare ≡ Some context.bare
-        → uri_meant t.uris c.bare_in.result ≡ Some (bare_in comes.default context.bare kind)) same (c.bare_in.ensures comes.default context.bare) in
+    → uri_meant t.uris c.bare_in.result ≡ Some (bare_in comes.default context.bare kind)) same (c.bare_in.ensures comes.default context.bare) in
     let scope = subst (λ t. IsInScope t (declared_at a.document.now row ++ context.scope)) same (c.in_ok-enter_scope.ensures.scope context.scope inherited.scope inside.distinct) in
     finish a b row _ e _ same comes.is (record {
       kind = refl;
