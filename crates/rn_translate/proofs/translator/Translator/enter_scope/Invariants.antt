@@ -4,7 +4,6 @@ use Rattle.std.specs.Prelude.{map}
 use Rattle.rn_xml.specs.XmlTags.{AreDistinct, Scope}
 use Rattle.rn_xml.specs.DocumentTrees.{binding_of}
 use Rattle.rn_translate.specs.inside.ElementsMeant.{IsInScope}
-use Rattle.rn_translate.specs.declared.translator.Translator.{Translator}
 use Rattle.rn_translate.proofs.translator.Translator.enter_scope.Given as goal
 
 abbrev pub invariant-declarations : goal.invariant-declarations
