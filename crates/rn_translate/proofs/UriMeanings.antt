@@ -1,6 +1,6 @@
 -- What URIs of a table mean.
-use Rattle.std.proofs.Common.{◌≡◌, ℕ, ◌+◌, ◌<◌, ◌≤◌, Bool, true, false, cond, List, [], ◌∷◌, ◌++◌, length, refl, sym, ap, ◌∙◌, subst, arith, ⊎_elim, ne_eqb, Bor, Some, None}
-use Rattle.std.specs.Prelude.{Option, option_map, slice_get, bytes_eq, codes, ◌==◌, ◌≢◌}
+use Rattle.std.proofs.Common.{◌≡◌, ℕ, ◌<◌, false, [], refl, sym, ap, ◌∙◌, subst, arith, ⊎_elim, ne_eqb, Bor, Some, None}
+use Rattle.std.specs.Prelude.{Option, option_map, slice_get, bytes_eq, ◌==◌}
 use Rattle.std.proofs.lemmas.Bool.{cases_Bool, cond-true, cond-false}
 use Rattle.std.proofs.lemmas.Bool.Decides.{nat_tests}
 use Rattle.std.proofs.lemmas.Option.{none-some, same_Some}

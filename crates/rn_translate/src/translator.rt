@@ -413,7 +413,8 @@ impl<'d, 'a> Translator<'d, 'a> {
     /// The text that an element begins with, and its place; where it has none, the given place.
     pub fn content(&self, index: usize, at: usize) -> (usize, &'d str)
         ensures at { result.1.now ≡ content_at self.now.document.now self.now.text index }
-        ensures text { (k : Nodes) (after : ℕ) → AreNested self.now.document.now → IsContent self.now.document.now index
+        ensures text { (k : Nodes) (after : ℕ) → AreNested self.now.document.now
+            → IsContent self.now.document.now index
             self.now.text k after → result.1.now ≡ text_of k }
     {
         match text_at(self.document, self.text) {

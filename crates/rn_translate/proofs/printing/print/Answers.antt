@@ -1,5 +1,5 @@
 -- The declarations, and the terms behind them.
-use Rattle.std.proofs.Common.{◌++◌, ◌+◌, []}
+use Rattle.std.proofs.Common.{◌++◌, []}
 use Rattle.rn_translate.specs.inside.PrintedTerms.{declared_tokens, terms_tokens}
 use Rattle.rn_translate.proofs.WrittenTokens.{writes_more, writes_then_none}
 use Rattle.rn_translate.proofs.printing.print.Goals as goal

@@ -1,5 +1,5 @@
 -- The next text, if it is the element's.
-use Rattle.std.proofs.Common.{◌≡◌, List, [], ℕ, sym, ◌∙◌, Some, None}
+use Rattle.std.proofs.Common.{◌≡◌, sym, ◌∙◌, Some, None}
 use Rattle.std.specs.Prelude.{slice_get}
 use Rattle.rn_translate.proofs.ContentTexts.{content_text, no_content, other_content, this_content}
 use Rattle.rn_translate.proofs.translator.Translator.content.Goals as goal

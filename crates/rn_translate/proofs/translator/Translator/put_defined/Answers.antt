@@ -1,5 +1,5 @@
 -- The name, where the attribute is there.
-use Rattle.std.proofs.Common.{◌∷◌, [], refl, sym, ap, ◌∙◌}
+use Rattle.std.proofs.Common.{◌∷◌, [], refl, ap, ◌∙◌}
 use Rattle.rn_text.specs.declared.keywords.Keyword.TheVariants as w
 use Rattle.rn_translate.specs.inside.Terms.{keyword, identifier}
 use Rattle.rn_translate.specs.inside.SchemaElements.{trimmed}

@@ -1,9 +1,9 @@
 -- The name and what opens the content, where the attribute is there.
-use Rattle.std.proofs.Common.{◌++◌, sym, ap, ◌∙◌}
-use Rattle.std.specs.Prelude.{codes, string_bytes}
+use Rattle.std.proofs.Common.{sym, ap, ◌∙◌}
+use Rattle.std.specs.Prelude.{codes}
 use Rattle.rn_translate.specs.inside.SchemaElements.{value_of}
-use Rattle.rn_translate.specs.inside.Layouts.{given_name, name_terms, opening, unprefixed_in}
-use Rattle.rn_translate.proofs.AddedTerms.{adds_none, adds_equal, ok_equal, ok_more}
+use Rattle.rn_translate.specs.inside.Layouts.{given_name}
+use Rattle.rn_translate.proofs.AddedTerms.{adds_none, adds_equal}
 use Rattle.rn_translate.proofs.translator.Translator.put_front_name.Goals as goal
 
 pub returns-in-None : goal.returns-in-None

@@ -1,5 +1,5 @@
 -- What is defined, and how.
-use Rattle.std.proofs.Common.{sym, ap, ◌∙◌}
+use Rattle.std.proofs.Common.{sym, ap}
 use Rattle.std.specs.Prelude.{codes}
 use Rattle.rn_translate.specs.inside.SchemaElements.{value_of}
 use Rattle.rn_translate.specs.inside.Layouts.{defined, method_term}

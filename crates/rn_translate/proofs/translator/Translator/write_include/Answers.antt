@@ -1,8 +1,8 @@
 -- The reference, and what opens the overrides.
 use Rattle.std.proofs.Common.{ap, ◌∙◌}
 use Rattle.std.specs.Prelude.{nat_le}
-use Rattle.rn_translate.specs.inside.Terms.{open_brace, close_brace}
-use Rattle.rn_translate.specs.inside.Layouts.{if_so, around}
+use Rattle.rn_translate.specs.inside.Terms.{open_brace}
+use Rattle.rn_translate.specs.inside.Layouts.{if_so}
 use Rattle.rn_translate.proofs.AddedTerms.{adds_equal, adds_more}
 use Rattle.rn_translate.proofs.translator.Translator.write_include.Goals as goal
 
