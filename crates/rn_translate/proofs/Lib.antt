@@ -23,3 +23,4 @@ pub mod AddedUris
 pub mod MadeUris
 pub mod KnownNamespaces
 pub mod BoundUris
+pub mod PrintedMeanings

@@ -29,11 +29,11 @@ pub empty_meant : {uris : Uris} → IsTable uris → uri_meant uris empty_uri �
 empty_meant {uris = uris} table = meant_at uris empty_uri [] (omega arith) table.empty
 
 -- what an index means, as it is the first one or not
-data Means (uris : Uris) (u : Uri) : Namespace → Type 0 where
+pub data Means (uris : Uris) (u : Uri) : Namespace → Type 0 where
   first : u.index ≡ 0 → Means uris u inherited
   other : {q : Text} → 0 < u.index → text_at uris u.index ≡ Some q → Means uris u (uri q)
 
-meaning : (uris : Uris) (u : Uri) (n : Namespace) → uri_meant uris u ≡ Some n → Means uris u n
+pub meaning : (uris : Uris) (u : Uri) (n : Namespace) → uri_meant uris u ≡ Some n → Means uris u n
 meaning uris u n is = ⊎_elim
     (λ zero.
     let none : u.index ≡ 0 = grind (arith, nat_tests) in

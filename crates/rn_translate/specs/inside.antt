@@ -8,6 +8,8 @@ pub mod UriTables
 pub mod ElementsMeant
 pub mod PrintedTerms
 pub mod NeededPrefixes
+pub mod SchemaTokens
+pub mod PrintedSchemas
 pub mod Terms
 pub mod SchemaElements
 pub mod Layouts
