@@ -1,10 +1,8 @@
 -- Terms of the code are printed as what they mean is.
-use Rattle.std.proofs.Common.{◌≡◌, ℕ, zero, ◌+◌, ◌<◌, ◌≤◌, Bool, true, false, cond, List, [], ◌∷◌, ◌++◌, refl, sym, ap, ◌∙◌, subst, arith, append-nil, ne_eqb, Bor, Some, None}
+use Rattle.std.proofs.Common.{◌≡◌, ℕ, ◌+◌, ◌<◌, Bool, true, false, cond, List, [], ◌∷◌, ◌++◌, refl, sym, ap, ◌∙◌, subst, arith, append-nil, ne_eqb, Bor, Some, None}
 use Rattle.std.specs.Prelude.{Option, ◌==◌, ◌||◌, ◌&&◌, not, bytes_eq, codes, filter, map, option_map, unwrap_or, slice_get, if◌then◌else◌}
-use Rattle.std.specs.BTreeMap.{get}
 use Rattle.std.specs.List.{cons_option, filter_map, flat_map}
 use Rattle.std.specs.Option.{option_map_or}
-use Rattle.std.specs.Ordering.{nat_cmp}
 use Rattle.std.proofs.lemmas.Bool.{cond-true, cond-false}
 use Rattle.std.proofs.lemmas.List.Elements.{filter_map-append}
 use Rattle.std.proofs.lemmas.Grind.{flat_map-append}
@@ -29,13 +27,13 @@ use Rattle.rn_translate.specs.declared.uris.Uris.{Uris}
 use Rattle.rn_translate.specs.inside.Terms.{Namespace, inherited, uri, Term, keyword, symbol, identifier, local, prefixed, any_of, prefix, datatype, literal}
 use Rattle.rn_translate.specs.inside.Layouts.{is_same}
 use Rattle.rn_translate.specs.inside.Meanings.{known, sign_terms, term_meant, terms_meant, uri_meant}
-use Rattle.rn_translate.specs.inside.UriTables.{IsTable, empty_uri, text_at, xsd_uri}
+use Rattle.rn_translate.specs.inside.UriTables.{IsTable, empty_uri, xsd_uri}
 use Rattle.rn_translate.specs.inside.DraftTokens.{identifier_token, literal_tokens, one_token, word_token}
 use Rattle.rn_translate.specs.inside.SignTokens.{sign_tokens}
-use Rattle.rn_translate.specs.inside.PrintedTerms.{bound_tokens, datatype_token, declared_tokens, default_tokens, is_built_in, number_of, numbered_bytes, prefix_bytes, prefix_tokens, prefixes_tokens, printed_tokens, term_tokens, terms_tokens, uri_text, uri_tokens}
-use Rattle.rn_translate.specs.inside.NeededPrefixes.{AreBound, bound_uris, each_once, is_uri, needed_libraries, needed_library, needed_namespace, needed_namespaces, place_in, unless}
+use Rattle.rn_translate.specs.inside.PrintedTerms.{bound_tokens, datatype_token, declared_tokens, default_tokens, is_built_in, number_of, numbered_bytes, prefix_bytes, prefixes_tokens, printed_tokens, term_tokens, terms_tokens, uri_text, uri_tokens}
+use Rattle.rn_translate.specs.inside.NeededPrefixes.{AreBound, each_once, is_uri, needed_libraries, needed_library, needed_namespace, needed_namespaces, place_in, unless}
 use Rattle.rn_translate.specs.inside.PrintedSchemas.{IsPrintable}
-use Rattle.rn_translate.specs.inside.SchemaTokens.{bound_to, default_declared, is_keyword_type, library_needed, namespace_needed, namespace_prefix, namespace_tokens, namespace_unless, number_among, once, place_among, prefixes_declared, printed_with, schema_tokens, tokens_of, type_tokens}
+use Rattle.rn_translate.specs.inside.SchemaTokens.{bound_to, default_declared, is_keyword_type, library_needed, namespace_needed, namespace_prefix, namespace_tokens, namespace_unless, number_among, once, place_among, prefixes_declared, schema_tokens, tokens_of, type_tokens}
 use Rattle.rn_translate.proofs.UriMeanings.{Means, empty_meant, meaning, meant_at, same_meant}
 
 zero_is : (k : ℕ) → k ≡ 0 → (k == 0) ≡ true

@@ -1,5 +1,5 @@
 -- The declarations, and the terms behind them.
-use Rattle.std.proofs.Common.{◌++◌, ◌+◌, [], subst}
+use Rattle.std.proofs.Common.{◌++◌, [], subst}
 use Rattle.rn_translate.specs.inside.DraftTokens.{IsPrintedAs}
 use Rattle.rn_translate.specs.inside.PrintedTerms.{declared_tokens, terms_tokens}
 use Rattle.rn_translate.proofs.PrintedMeanings.{printed_meant}
