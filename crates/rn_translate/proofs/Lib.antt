@@ -24,3 +24,4 @@ pub mod MadeUris
 pub mod KnownNamespaces
 pub mod BoundUris
 pub mod PrintedMeanings
+pub mod LeftScopes

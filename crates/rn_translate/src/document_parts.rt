@@ -93,9 +93,21 @@ pub(crate) fn child_at<'d, 'a>(
         then slice_get document.now.elements.items index else None) }
 {
     if index < end {
-        return document.elements.get(index);
+        return element_at(document, index);
     }
     None
+}
+
+/// The element of this index, if there is one.
+pub(crate) fn element_at<'d, 'a>(
+    document: &'d XmlDocument<'a>,
+    index: usize,
+) -> Option<&'d XmlElement<'a>>
+    ensures within { IsSome result → index < vec_len document.now.elements }
+    ensures element { option_map (λ element. element.now) result
+        ≡ slice_get document.now.elements.items index }
+{
+    document.elements.get(index)
 }
 
 /// The text of this index, if there is one.

@@ -1,5 +1,5 @@
 // The walk over the elements of a document, which collects the terms of its compact text.
-ghost use Rattle.std.specs.Prelude.{◌≡◌, ◌==◌, ◌<◌, ◌≤◌, ◌+◌, ◌-◌, ◌*◌, ◌^◌, ◌++◌, ℕ, true, false, if◌then◌else◌, nat_le, List, IfOk, OnOk, Some, codes, vec_len};
+ghost use Rattle.std.specs.Prelude.{◌≡◌, ◌==◌, ◌<◌, ◌≤◌, ◌+◌, ◌-◌, ◌*◌, ◌^◌, ◌++◌, ℕ, true, false, if◌then◌else◌, nat_le, List, IfOk, OnOk, Some, codes, slice_get, vec_len};
 ghost use Rattle.rn_xml.specs.Infoset.{Nodes};
 ghost use Rattle.rn_xml.specs.XmlTags.{AreDistinct, Scope};
 ghost use Rattle.rn_translate.specs.inside.Terms.{Namespace, Term as MeantTerm};
@@ -14,7 +14,7 @@ ghost use Rattle.rn_translate.specs.inside.Walks.{AreNested, IsContent, content_
 
 use crate::content::{Holder, needed_attribute};
 use crate::document_parts::{
-    Children, attribute, behind, child_at, children_of, content_of, kind_of, uri_at,
+    Children, attribute, behind, child_at, children_of, content_of, element_at, kind_of, uri_at,
 };
 use crate::kinds::{Kind, Role};
 use crate::rng_fault::{RngFault, RngFaultKind, shown};
@@ -351,12 +351,26 @@ impl<'d, 'a> Translator<'d, 'a> {
 
     /// The declarations of an element mean nothing from here on.
     fn leave_scope(&mut self, index: usize)
-        ensures { self.new ≡ record self.old { scopes = self.new.scopes } }
+        ensures same { self.new ≡ record self.old { scopes = self.new.scopes } }
+        ensures left { (row : XmlElement) (scope : Scope)
+            → slice_get self.old.document.now.elements.items index ≡ Some row
+            → IsInScope self.old (declared_at self.old.document.now row ++ scope)
+            → IsInScope self.new scope }
+    {
+        if let Some(element) = element_at(self.document, index) {
+            self.leave(element);
+        }
+    }
+
+    /// The declarations of this element mean nothing from here on.
+    fn leave(&mut self, element: &XmlElement<'a>)
+        ensures same { self.new ≡ record self.old { scopes = self.new.scopes } }
+        ensures left { (scope : Scope)
+            → IsInScope self.old (declared_at self.old.document.now element.now ++ scope)
+            → IsInScope self.new scope }
     {
         let document = self.document;
-        if let Some(element) = document.elements.get(index) {
-            self.scopes.leave(document.declarations_of(element));
-        }
+        self.scopes.leave(document.declarations_of(element));
     }
 
     /// Passes the texts of an element that come before another one. Refused where one can't be.
