@@ -1,7 +1,7 @@
 -- The scope round an element that ends.
 use Rattle.std.proofs.Common.{◌++◌, sym, subst}
 use Rattle.rn_xml.specs.XmlTags.{Scope}
-use Rattle.rn_xml.specs.PrefixScopes.{IsLeft, around}
+use Rattle.rn_xml.specs.PrefixScopes.{IsLeft}
 use Rattle.rn_xml.specs.TableRows.{rows_of}
 use Rattle.rn_xml.specs.inside.OpenTables.{binding_at, Denotes}
 use Rattle.rn_xml.specs.declared.document.XmlElement.{XmlElement}
