@@ -1,5 +1,5 @@
 -- Attributes that are looked for by their names.
-use Rattle.std.proofs.Common.{◌≡◌, ℕ, suc, ◌+◌, ◌-◌, ◌<◌, ◌≤◌, Bool, true, false, cond, List, [], ◌∷◌, length, take, drop, refl, sym, ap, ◌∙◌, subst, arith, ⊎_elim, ne_eqb, Bor, Some, None}
+use Rattle.std.proofs.Common.{◌≡◌, ℕ, suc, ◌-◌, Bool, true, false, cond, List, [], ◌∷◌, length, take, drop, refl, sym, ◌∙◌, subst, arith, ⊎_elim, ne_eqb, Bor, Some, None}
 use Rattle.std.specs.Prelude.{Option, All, option_map, map, bytes_eq, string_bytes, ◌==◌, ◌&&◌, nat_le}
 use Rattle.std.specs.List.{find}
 use Rattle.std.proofs.lemmas.Bool.{and_parts, cases_Bool, cond-true, cond-false}

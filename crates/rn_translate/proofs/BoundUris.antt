@@ -1,5 +1,5 @@
 -- URIs to which prefixes are bound, one behind the other.
-use Rattle.std.proofs.Common.{◌≡◌, ℕ, ◌+◌, ◌<◌, ◌≤◌, Bool, true, false, cond, List, [], ◌∷◌, ◌++◌, length, take, get_or, refl, sym, ap, ◌∙◌, subst, arith, ⊎_elim, append-nil, Bor, Some, None}
+use Rattle.std.proofs.Common.{◌≡◌, ℕ, ◌+◌, ◌<◌, Bool, true, false, cond, List, [], ◌∷◌, ◌++◌, length, take, get_or, refl, sym, ap, ◌∙◌, arith, ⊎_elim, append-nil, Bor, Some, None}
 use Rattle.std.specs.Prelude.{Option, ◌==◌, ◌||◌, not, is_some, option_map, filter, map, if◌then◌else◌}
 use Rattle.std.specs.List.{cons_option, filter_map}
 use Rattle.std.proofs.lemmas.Bool.{cases_Bool, cond-true, cond-false}
@@ -78,7 +78,7 @@ once_push (x ∷ us) u =
     (λ same.
     let out : left (u ∷ []) ≡ [] = cond-false (not (is_uri x u)) (u ∷ []) [] (ap not (turned same)) in
     let gone : left (with_uri E (Some u)) ≡ left E = elim (is_some (place_in E u)) as (λ b. left (cond b E (E ++ u ∷ [])) ≡ left E) [
-      true ↦ refl
+      | true ↦ refl
       | false ↦ filter-append (λ v. not (is_uri x v)) E (u ∷ []) ∙ ap (λ l. left E ++ l) out ∙ append-nil (left E)
     ] in
     ap (λ l. x ∷ l) gone ∙ sym (cond-true (is_some (place_in (x ∷ left E) u)) (x ∷ left E) ((x ∷ left E) ++ u ∷ []) (among x (left E) u ∙ ap (λ b. b || is_some (place_in (left E) u)) same)))
@@ -87,7 +87,7 @@ once_push (x ∷ us) u =
     let there : is_some (place_in (x ∷ left E) u) ≡ is_some (place_in E u) = among x (left E) u ∙ ap (λ b. b || is_some (place_in (left E) u)) other ∙ among_left x u E other in
     let more : (x ∷ left (with_uri E (Some u))) ≡ cond (is_some (place_in E u)) (x ∷ left E) ((x ∷ left E) ++ u ∷ []) =
     elim (is_some (place_in E u)) as (λ b. (x ∷ left (cond b E (E ++ u ∷ []))) ≡ cond b (x ∷ left E) ((x ∷ left E) ++ u ∷ [])) [
-      true ↦ refl
+      | true ↦ refl
       | false ↦ ap (λ l. x ∷ l) (filter-append (λ v. not (is_uri x v)) E (u ∷ []) ∙ ap (λ l. left E ++ l) stays)
     ] in
     more ∙ ap (λ b. cond b (x ∷ left E) ((x ∷ left E) ++ u ∷ [])) (sym there))
@@ -95,6 +95,7 @@ once_push (x ∷ us) u =
   where
     turned : is_uri u x ≡ true → is_uri x u ≡ true
     turned e = grind (arith, nat_tests)
+
     turned_not : is_uri u x ≡ false → is_uri x u ≡ false
     turned_not e = grind (arith, nat_tests)
 

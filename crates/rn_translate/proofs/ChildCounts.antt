@@ -1,17 +1,17 @@
 -- The children of an element, as they are counted one after the other.
 use Rattle.std.proofs.Common.{◌≡◌, ℕ, ◌+◌, ◌<◌, ◌≤◌, Bool, true, false, cond, List, [], ◌∷◌, refl, sym, ap, ◌∙◌, subst, arith, ⊎_elim, Some, None}
-use Rattle.std.specs.Prelude.{Option, not, ◌&&◌, ◌||◌, if◌then◌else◌, nat_lt, slice_get, bytes_eq}
+use Rattle.std.specs.Prelude.{Option, not, ◌||◌, if◌then◌else◌, nat_lt, slice_get, bytes_eq}
 use Rattle.std.specs.List.{list_all}
-use Rattle.std.proofs.lemmas.Bool.{and_parts, cases_Bool, cond-true, cond-false}
+use Rattle.std.proofs.lemmas.Bool.{and_parts, cases_Bool, cond-true}
 use Rattle.std.proofs.lemmas.Bool.Decides.{nat_tests}
 use Rattle.std.proofs.lemmas.Option.{none-some, same_Some}
 use Rattle.rn_text.specs.Texts.{Text}
-use Rattle.rn_xml.specs.Infoset.{Name, Nodes, no_nodes, more_nodes, characters}
+use Rattle.rn_xml.specs.Infoset.{Name, Nodes}
 use Rattle.rn_xml.specs.DocumentTrees.{AreChildren, name_of}
 use Rattle.rn_xml.specs.declared.document.XmlElement.{XmlElement}
 use Rattle.rn_xml.specs.declared.document.XmlDocument.{XmlDocument}
 use Rattle.rn_translate.specs.inside.SchemaElements.{count_of, has_except, is_except_kind, is_foreign, kind_in, kind_name, kind_of, kinds, rng_uri}
-use Rattle.rn_translate.specs.inside.Walks.{AreNested, NextChild, node_at}
+use Rattle.rn_translate.specs.inside.Walks.{AreNested}
 use Rattle.rn_translate.specs.declared.kinds.Kind.{Kind}
 use Rattle.rn_translate.proofs.TreeSteps.{next_child, no_end_before, skips_count, skips_except}
 

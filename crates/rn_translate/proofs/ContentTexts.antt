@@ -1,8 +1,8 @@
 -- The text that an element begins with.
-use Rattle.std.proofs.Common.{◌≡◌, ℕ, ◌+◌, ◌<◌, ◌≤◌, Bool, true, false, cond, List, [], refl, sym, ap, ◌∙◌, arith, ⊎_elim, ne_eqb, Some, None}
+use Rattle.std.proofs.Common.{◌≡◌, ℕ, ◌≤◌, true, [], refl, ap, ◌∙◌, arith, ne_eqb, Some, None}
 use Rattle.std.specs.Prelude.{Option, ◌≢◌, ◌==◌, if◌then◌else◌, slice_get, string_bytes}
 use Rattle.std.specs.Option.{option_map_or}
-use Rattle.std.proofs.lemmas.Bool.{cases_Bool, cond-true, cond-false}
+use Rattle.std.proofs.lemmas.Bool.{cond-true, cond-false}
 use Rattle.std.proofs.lemmas.Bool.Decides.{nat_tests}
 use Rattle.rn_text.specs.Texts.{Text}
 use Rattle.rn_xml.specs.Infoset.{Nodes}

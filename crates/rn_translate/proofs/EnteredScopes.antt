@@ -1,6 +1,6 @@
 -- What prefixes mean in an element, as its declarations are entered one after the other.
-use Rattle.std.proofs.Common.{◌≡◌, ℕ, zero, suc, ◌+◌, ◌-◌, ◌<◌, ◌≤◌, Bool, true, false, List, [], ◌∷◌, ◌++◌, length, take, drop, get_or, refl, sym, ap, ◌∙◌, subst, arith, ⊎_elim, Some, None}
-use Rattle.std.specs.Prelude.{◌≢◌, Option, option_map, slice_get, map, ◌&&◌, nat_le, bytes_eq, if◌then◌else◌}
+use Rattle.std.proofs.Common.{◌≡◌, ℕ, zero, suc, ◌+◌, ◌-◌, ◌<◌, List, [], ◌∷◌, ◌++◌, length, take, drop, get_or, refl, sym, ap, ◌∙◌, subst, arith, ⊎_elim, Some, None}
+use Rattle.std.specs.Prelude.{◌≢◌, Option, option_map, slice_get, map, ◌&&◌, nat_le, bytes_eq}
 use Rattle.std.proofs.lemmas.Bool.{cases_Bool, cond-true, cond-false}
 use Rattle.std.proofs.lemmas.List.{length-take, map-append, take_more}
 use Rattle.std.proofs.lemmas.Option.{none-some, same_Some, slice_get-map, slice_get_within, slice_get-get_or, get_or_from_slice_get}
@@ -81,7 +81,7 @@ entered a old new rows i n r none is_entered within is there s distinct before =
     let d = a.document.now in
     let here : slice_get rows i ≡ Some r = slice_get-get_or rows i none within ∙ ap (λ x. Some x) (sym is) in
     let more : map (binding_of d) (take (i + 1) rows) ≡ map (binding_of d) (take i rows) ++ binding_of d r ∷ [] =
-        ap (map (binding_of d)) (take_more rows i none within ∙ ap (λ x. take i rows ++ x ∷ []) (sym is)) ∙ map-append (binding_of d) (take i rows) (r ∷ []) in
+    ap (map (binding_of d)) (take_more rows i none within ∙ ap (λ x. take i rows ++ x ∷ []) (sym is)) ∙ map-append (binding_of d) (take i rows) (r ∷ []) in
     record {
       knows = record { table = before.knows.table; has = before.knows.has; known = before.knows.known };
       declared = λ q. subst (λ bs. Denotes (binding_at d) q (bs ++ s) (around new q)) (sym more)

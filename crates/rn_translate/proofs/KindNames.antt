@@ -1,5 +1,5 @@
 -- Elements that are looked for by their names.
-use Rattle.std.proofs.Common.{◌≡◌, cond, true, false, List, [], ◌∷◌, refl, Some, None}
+use Rattle.std.proofs.Common.{◌≡◌, cond, true, false, List, [], ◌∷◌, refl, Some}
 use Rattle.std.specs.Prelude.{bytes_eq}
 use Rattle.std.specs.List.{find}
 use Rattle.rn_text.specs.Texts.{Text}

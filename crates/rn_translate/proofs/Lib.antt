@@ -26,3 +26,5 @@ pub mod BoundUris
 pub mod TreeTexts
 pub mod OpenSteps
 pub mod ChildSteps
+pub mod PrintedMeanings
+pub mod LeftScopes

@@ -1,5 +1,5 @@
 -- What the prefixes of names mean in a scope.
-use Rattle.std.proofs.Common.{◌≡◌, ℕ, Bool, true, false, List, [], ◌∷◌, ◌++◌, refl, sym, ap, ◌∙◌, Bor, Some, None}
+use Rattle.std.proofs.Common.{◌≡◌, ℕ, Bool, true, false, List, [], refl, sym, ap, ◌∙◌, Bor, Some, None}
 use Rattle.std.specs.Prelude.{Option, option_map, unwrap_or, slice_get, bytes_eq, codes, IfNone, if◌then◌else◌}
 use Rattle.std.specs.Option.{option_map_or}
 use Rattle.std.proofs.lemmas.Bool.{cond-true, cond-false}
@@ -13,7 +13,7 @@ use Rattle.rn_xml.specs.declared.document.XmlDeclaration.{XmlDeclaration}
 use Rattle.rn_xml.specs.declared.document.XmlDocument.{XmlDocument}
 use Rattle.rn_xml.specs.inside.OpenTables.{binding_at, Denotes}
 use Rattle.rn_xml.proofs.ScopeMeans.{innermost_last}
-use Rattle.rn_translate.specs.inside.Terms.{Namespace, Term, uri, local as local_term, prefixed}
+use Rattle.rn_translate.specs.inside.Terms.{Namespace, uri, local as local_term, prefixed}
 use Rattle.rn_translate.specs.inside.SchemaElements.{parted, prefix_and_local, prefix_uri}
 use Rattle.rn_translate.specs.inside.Layouts.{is_same, name_term}
 use Rattle.rn_translate.specs.inside.Meanings.{uri_meant}

@@ -1,6 +1,5 @@
 -- Terms that are added while the declarations that prefixes mean change.
 use Rattle.std.proofs.Common.{◌≡◌, Some, List, ◌++◌, sym, ap, ◌∙◌, subst, append_assoc}
-use Rattle.std.specs.Prelude.{map}
 use Rattle.std.proofs.lemmas.List.{map-append}
 use Rattle.rn_translate.specs.inside.Terms.{Term}
 use Rattle.rn_translate.specs.inside.Meanings.{Adds, AddsInScope, known, terms_meant}

@@ -1,12 +1,12 @@
 -- Texts without the white space at their ends.
-use Rattle.std.proofs.Common.{◌≡◌, ℕ, ◌+◌, ◌-◌, ◌<◌, ◌≤◌, Bool, true, false, cond, List, [], ◌∷◌, ◌++◌, length, drop, take, refl, sym, ap, ◌∙◌, arith, ⊎_elim, append-nil, Some, None}
-use Rattle.std.specs.Prelude.{Option, IfSome, ◌&&◌, encode_utf8, if◌then◌else◌}
+use Rattle.std.proofs.Common.{◌≡◌, ℕ, ◌-◌, ◌<◌, Bool, true, false, cond, List, [], ◌∷◌, ◌++◌, length, drop, take, refl, sym, ap, ◌∙◌, arith, ⊎_elim, append-nil, Some, None}
+use Rattle.std.specs.Prelude.{Option, IfSome, ◌&&◌, encode_utf8}
 use Rattle.std.specs.Char.{IsScalar}
 use Rattle.std.specs.Fn.{AlwaysReturns, Called}
 use Rattle.std.specs.List.{list_all}
 use Rattle.std.specs.Str.Pattern.{IsTrimStartMatches, IsTrimEndMatches, CutsPrefixes, CutsSuffixes, FindsPrefixBy, FindsSuffixBy}
 use Rattle.std.proofs.Math.Seq.{drop-length}
-use Rattle.std.proofs.lemmas.Bool.{and_parts, cases_Bool, cond-true, cond-false}
+use Rattle.std.proofs.lemmas.Bool.{cases_Bool, cond-true, cond-false}
 use Rattle.std.proofs.lemmas.Bool.Decides.{nat_tests}
 use Rattle.std.proofs.lemmas.List.{take-append-drop}
 use Rattle.std.proofs.lemmas.List.Folds.{list_all-append}
@@ -14,7 +14,7 @@ use Rattle.std.proofs.lemmas.List.Sorted.{answers_always}
 use Rattle.std.proofs.lemmas.Str.{encode_ascii, len_utf8_bounds}
 use denote.Param.Members.{Mut}
 use Rattle.rn_text.specs.Texts.{is_white}
-use Rattle.rn_translate.specs.inside.SchemaElements.{trimmed, without_end, without_front}
+use Rattle.rn_translate.specs.inside.SchemaElements.{without_end, without_front}
 
 -- white space is of ASCII
 white_small : (c : ℕ) → is_white c ≡ true → c < 128

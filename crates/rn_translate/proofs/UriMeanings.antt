@@ -1,6 +1,6 @@
 -- What URIs of a table mean.
-use Rattle.std.proofs.Common.{◌≡◌, ℕ, ◌+◌, ◌<◌, ◌≤◌, Bool, true, false, cond, List, [], ◌∷◌, ◌++◌, length, refl, sym, ap, ◌∙◌, subst, arith, ⊎_elim, ne_eqb, Bor, Some, None}
-use Rattle.std.specs.Prelude.{Option, option_map, slice_get, bytes_eq, codes, ◌==◌, ◌≢◌}
+use Rattle.std.proofs.Common.{◌≡◌, ℕ, ◌<◌, false, [], refl, sym, ap, ◌∙◌, subst, arith, ⊎_elim, ne_eqb, Bor, Some, None}
+use Rattle.std.specs.Prelude.{Option, option_map, slice_get, bytes_eq, ◌==◌}
 use Rattle.std.proofs.lemmas.Bool.{cases_Bool, cond-true, cond-false}
 use Rattle.std.proofs.lemmas.Bool.Decides.{nat_tests}
 use Rattle.std.proofs.lemmas.Option.{none-some, same_Some}
@@ -29,11 +29,11 @@ pub empty_meant : {uris : Uris} → IsTable uris → uri_meant uris empty_uri �
 empty_meant {uris = uris} table = meant_at uris empty_uri [] (omega arith) table.empty
 
 -- what an index means, as it is the first one or not
-data Means (uris : Uris) (u : Uri) : Namespace → Type 0 where
+pub data Means (uris : Uris) (u : Uri) : Namespace → Type 0 where
   first : u.index ≡ 0 → Means uris u inherited
   other : {q : Text} → 0 < u.index → text_at uris u.index ≡ Some q → Means uris u (uri q)
 
-meaning : (uris : Uris) (u : Uri) (n : Namespace) → uri_meant uris u ≡ Some n → Means uris u n
+pub meaning : (uris : Uris) (u : Uri) (n : Namespace) → uri_meant uris u ≡ Some n → Means uris u n
 meaning uris u n is = ⊎_elim
     (λ zero.
     let none : u.index ≡ 0 = grind (arith, nat_tests) in

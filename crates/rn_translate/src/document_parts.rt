@@ -3,9 +3,9 @@ ghost use Rattle.std.specs.Prelude.{◌≡◌, ◌+◌, ◌<◌, ◌^◌, ◌||�
 ghost use Rattle.rn_text.specs.Texts.{is_white};
 ghost use Rattle.rn_xml.specs.Infoset.{Nodes};
 ghost use Rattle.rn_xml.specs.DocumentTrees.{AreChildren, name_of, uri_at_index};
-ghost use Rattle.rn_translate.specs.inside.SchemaElements.{count_of, has_except, is_except_kind, is_foreign, kind_of, rng_uri, trimmed, value_of};
+ghost use Rattle.rn_translate.specs.inside.SchemaElements.{count_of, has_except, is_except_kind, is_foreign, kind_of, rng_uri, text_of, trimmed, value_of};
 ghost use Rattle.rn_translate.specs.inside.ElementsMeant.{attributes_at};
-ghost use Rattle.rn_translate.specs.inside.Walks.{AreNested};
+ghost use Rattle.rn_translate.specs.inside.Walks.{AreNested, IsContent, content_at};
 
 use crate::kinds::{Kind, Role};
 use rn_xml::{XmlAttribute, XmlDocument, XmlElement, XmlText};
@@ -93,7 +93,7 @@ pub(crate) fn child_at<'d, 'a>(
         then slice_get document.now.elements.items index else None) }
 {
     if index < end {
-        return document.elements.get(index);
+        return element_at(document, index);
     }
     None
 }
@@ -103,7 +103,8 @@ pub(crate) fn element_at<'d, 'a>(
     document: &'d XmlDocument<'a>,
     index: usize,
 ) -> Option<&'d XmlElement<'a>>
-    ensures { option_map (λ element. element.now) result
+    ensures within { IsSome result → index < vec_len document.now.elements }
+    ensures element { option_map (λ element. element.now) result
         ≡ slice_get document.now.elements.items index }
 {
     document.elements.get(index)
@@ -116,6 +117,24 @@ pub(crate) fn text_at<'d>(document: &'d XmlDocument<'_>, index: usize) -> Option
         ≡ slice_get document.now.texts.items index }
 {
     document.texts.get(index)
+}
+
+/// The text that the element of this index begins with, and its place, where the first text that isn't passed yet is
+/// given; where it has none, nothing at the given place.
+pub(crate) fn content_of<'d>(
+    document: &'d XmlDocument<'_>,
+    text: usize,
+    index: usize,
+    at: usize,
+) -> (usize, &'d str)
+    ensures at { result.1.now ≡ content_at document.now text index }
+    ensures text { (k : Nodes) (after : ℕ) → AreNested document.now
+        → IsContent document.now index text k after → result.1.now ≡ text_of k }
+{
+    match text_at(document, text) {
+        Some(first) if first.parent == index => (first.at, first.content.as_str()),
+        _ => (at, ""),
+    }
 }
 
 /// The children of the element of this index, which are before the element `end`.

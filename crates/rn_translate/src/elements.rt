@@ -172,8 +172,9 @@ impl<'d, 'a> Translator<'d, 'a> {
 
     /// Writes a reference to the grammar around.
     fn write_parent_reference(&mut self, element: &'d XmlElement<'a>) -> Result<Layout, RngFault>
-        ensures added { OnOk result (Adds self.old self.new (keyword_term Keyword.Parent ∷ identifier
-            (name_in (codes "name") (attributes_at self.old.document.now element.now)) ∷ [])) }
+        ensures added { OnOk result (Adds self.old self.new (keyword_term Keyword.Parent
+            ∷ identifier (name_in (codes "name")
+            (attributes_at self.old.document.now element.now)) ∷ [])) }
         ensures layout { IfOk result (λ l. layout_meant l ≡ around []) }
     {
         self.put(element.at, Term::Keyword(Keyword::Parent))?;

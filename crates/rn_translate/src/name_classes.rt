@@ -1,5 +1,5 @@
 // What elements and attributes with their names, and name classes, come to in the compact text (compact syntax, section 3).
-ghost use Rattle.std.specs.Prelude.{◌≡◌, ◌∷◌, ◌++◌, List, [], true, Some, None, codes, if◌then◌else◌, string_bytes, IfOk, OnOk};
+ghost use Rattle.std.specs.Prelude.{◌≡◌, ◌++◌, List, [], true, Some, None, codes, if◌then◌else◌, string_bytes, IfOk, OnOk};
 ghost use Rattle.rn_translate.specs.inside.Terms.{Term as MeantTerm, close_parenthesis, open_parenthesis};
 ghost use Rattle.rn_translate.specs.inside.TermNames.{has_names};
 ghost use Rattle.rn_translate.specs.inside.SchemaElements.{holds_text, value_of};
@@ -97,7 +97,8 @@ impl<'d, 'a> Translator<'d, 'a> {
         open: Open,
     ) -> Result<Layout, RngFault>
         ensures added { (e : Written) → IsMeant self.old element.now «open» e
-            → holds_text e.kind ≡ true → OnOk result (Adds self.old self.new (name_terms e e.context.namespace e.text)) }
+            → holds_text e.kind ≡ true → OnOk result (Adds self.old self.new
+            (name_terms e e.context.namespace e.text)) }
         ensures layout { IfOk result (λ l. layout_meant l ≡ around []) }
     {
         let (at, content) = self.content(open.index, element.at);

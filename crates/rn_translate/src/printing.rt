@@ -1,8 +1,11 @@
 // The compact text of terms, after the declarations of their prefixes.
-ghost use Rattle.std.specs.Prelude.{◌≡◌, [], true, IfOk, OnOk, string_bytes};
+ghost use Rattle.std.specs.Prelude.{◌≡◌, [], true, List, IfOk, OnOk, string_bytes};
 ghost use Rattle.std.specs.Str.{chars};
 ghost use Rattle.rn_text.specs.Characters.{is_name_start, is_ncname};
+ghost use Rattle.rn_translate.specs.inside.Terms.{Namespace, Term as MeantTerm};
 ghost use Rattle.rn_translate.specs.inside.DraftTokens.{IsPrintedAs, Writes};
+ghost use Rattle.rn_translate.specs.inside.SchemaTokens.{schema_tokens};
+ghost use Rattle.rn_translate.specs.inside.PrintedSchemas.{IsPrintable};
 ghost use Rattle.rn_translate.specs.inside.NeededPrefixes.{AreBound, each_once, needed_libraries, needed_library, needed_namespace, needed_namespaces, unless};
 ghost use Rattle.rn_translate.specs.inside.PrintedTerms.{bound_tokens, datatype_token, declared_tokens, default_tokens, is_built_in, prefix_bytes, prefix_tokens, prefixes_tokens, printed_tokens, term_tokens, terms_tokens, uri_tokens};
 
@@ -304,6 +307,9 @@ pub(crate) fn print(
     ensures source { IfOk result (λ whole. whole.source_len ≡ source_len) }
     ensures tokens { IfOk result (λ whole. IsPrintedAs whole
         (printed_tokens declared.now terms.now)) }
+    ensures meant { (default : Namespace) (ts : List MeantTerm)
+        → IsPrintable declared.now terms.now default ts
+        → IfOk result (λ whole. IsPrintedAs whole (schema_tokens default ts)) }
 {
     let mut whole = Draft::new(alloc, source_len);
     whole.put_declarations(alloc, declared)?;

@@ -6,6 +6,7 @@ ghost use Rattle.rn_translate.specs.inside.Terms.{Namespace, Term as MeantTerm};
 ghost use Rattle.rn_translate.specs.inside.SchemaElements.{bare_in, nearest, text_of, value_of};
 ghost use Rattle.rn_translate.specs.inside.Layouts.{Written, begins, layout};
 ghost use Rattle.rn_translate.specs.inside.Translation.{before_child, behind_child, standing_of};
+ghost use Rattle.rn_translate.specs.inside.UriTables.{gives_uri};
 ghost use Rattle.rn_translate.specs.inside.ElementsMeant.{Comes, IsChildOf, IsInScope, IsMeant, KnowsUris, attributes_at, declared_at};
 ghost use Rattle.rn_translate.specs.inside.Meanings.{Adds, AddsInScope, class_meant, is_parted, known, layout_meant, sign_terms, term_meant, uri_meant};
 ghost use Rattle.rn_translate.specs.inside.TermNames.{has_names};
@@ -13,7 +14,7 @@ ghost use Rattle.rn_translate.specs.inside.Walks.{AreNested, IsContent, content_
 ghost use Rattle.rn_translate.specs.inside.OpenLevels.{IsAtStart, IsLevelOf, IsOpenOf};
 
 use crate::content::{Holder, needed_attribute};
-use crate::document_parts::{Children, attribute, children_of, element_at, text_at};
+use crate::document_parts::{Children, attribute, children_of, content_of, element_at};
 use crate::kinds::{Kind, Role};
 use crate::rng_fault::{RngFault, RngFaultKind};
 use crate::signs::Sign;
@@ -251,27 +252,35 @@ impl<'d, 'a> Translator<'d, 'a> {
     /// The declarations of an element mean nothing from here on.
     fn leave_scope(&mut self, index: usize)
         ensures same { self.new ≡ record self.old { scopes = self.new.scopes } }
-        ensures scope { (row : XmlElement) (scope : Scope)
+        ensures left { (row : XmlElement) (scope : Scope)
             → slice_get self.old.document.now.elements.items index ≡ Some row
             → IsInScope self.old (declared_at self.old.document.now row ++ scope)
             → IsInScope self.new scope }
     {
-        let document = self.document;
-        if let Some(element) = element_at(document, index) {
-            self.scopes.leave(document.declarations_of(element));
+        if let Some(element) = element_at(self.document, index) {
+            self.leave(element);
         }
+    }
+
+    /// The declarations of this element mean nothing from here on.
+    fn leave(&mut self, element: &XmlElement<'a>)
+        ensures same { self.new ≡ record self.old { scopes = self.new.scopes } }
+        ensures left { (scope : Scope)
+            → IsInScope self.old (declared_at self.old.document.now element.now ++ scope)
+            → IsInScope self.new scope }
+    {
+        let document = self.document;
+        self.scopes.leave(document.declarations_of(element));
     }
 
     /// The text that an element begins with, and its place; where it has none, the given place.
     pub fn content(&self, index: usize, at: usize) -> (usize, &'d str)
         ensures at { result.1.now ≡ content_at self.now.document.now self.now.text index }
-        ensures text { (k : Nodes) (after : ℕ) → AreNested self.now.document.now → IsContent self.now.document.now index
-            self.now.text k after → result.1.now ≡ text_of k }
+        ensures text { (k : Nodes) (after : ℕ) → AreNested self.now.document.now
+            → IsContent self.now.document.now index self.now.text k after
+            → result.1.now ≡ text_of k }
     {
-        match text_at(self.document, self.text) {
-            Some(text) if text.parent == index => (text.at, text.content.as_str()),
-            _ => (at, ""),
-        }
+        content_of(self.document, self.text, index, at)
     }
 
     /// The declarations of an element mean something from here on.
@@ -376,10 +385,7 @@ impl<'d, 'a> Translator<'d, 'a> {
             ≡ Some (nearest n (value_of (codes "ns")
             (attributes_at self.now.document.now element.now))) }
     {
-        match attribute(self.document, element, "ns") {
-            Some(ns) => self.uris.uri(ns.value.as_str()),
-            None => inherited,
-        }
+        self.given_uri(element, "ns", inherited)
     }
 
     /// The nearest `datatypeLibrary` of an element, where this one is inherited (4.3).
@@ -389,8 +395,18 @@ impl<'d, 'a> Translator<'d, 'a> {
             ≡ Some (nearest n (value_of (codes "datatypeLibrary")
             (attributes_at self.now.document.now element.now))) }
     {
-        match attribute(self.document, element, "datatypeLibrary") {
-            Some(library) => self.uris.uri(library.value.as_str()),
+        self.given_uri(element, "datatypeLibrary", inherited)
+    }
+
+    /// The URI that an attribute of this name gives, which is one that may; this one where there is none.
+    fn given_uri(&self, element: &XmlElement<'a>, local: &str, inherited: Uri) -> Uri
+        ensures { (n : Namespace) → KnowsUris self.now → gives_uri local.now ≡ true
+            → uri_meant self.now.uris inherited ≡ Some n → uri_meant self.now.uris result
+            ≡ Some (nearest n (value_of local.now
+            (attributes_at self.now.document.now element.now))) }
+    {
+        match attribute(self.document, element, local) {
+            Some(found) => self.uris.uri(found.value.as_str()),
             None => inherited,
         }
     }

@@ -1,10 +1,10 @@
 // Names in a schema, and how they are written in the compact text (RELAX NG 2001, 4.2 and 4.8 to 4.10).
-ghost use Rattle.std.specs.Prelude.{◌≡◌, ◌∷◌, ◌==◌, [], true, false, IfNone, OnOk, Some, bytes_eq, codes, if◌then◌else◌, option_map, slice_get, unwrap_or};
+ghost use Rattle.std.specs.Prelude.{◌≡◌, ◌∷◌, ◌==◌, [], true, false, IfNone, OnOk, Some, bytes_eq, codes, option_map, slice_get, unwrap_or};
 ghost use Rattle.std.specs.Option.{option_map_or};
 ghost use Rattle.std.specs.Str.{chars};
 ghost use Rattle.rn_text.specs.Characters.{is_ncname};
 ghost use Rattle.rn_xml.specs.XmlTags.{Scope, uri_in};
-ghost use Rattle.rn_translate.specs.inside.Terms.{Namespace, datatype, identifier, local as local_term, prefixed, uri as uri_namespace};
+ghost use Rattle.rn_translate.specs.inside.Terms.{Namespace, datatype, identifier, local as local_term, uri as uri_namespace};
 ghost use Rattle.rn_translate.specs.inside.SchemaElements.{prefix_and_local, prefix_uri, qualified};
 ghost use Rattle.rn_translate.specs.inside.Layouts.{name_term};
 ghost use Rattle.rn_translate.specs.inside.UriTables.{IsTable};

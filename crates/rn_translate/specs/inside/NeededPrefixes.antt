@@ -3,7 +3,6 @@ use Rattle.std.specs.Prelude.{◌≡◌, ℕ, ◌==◌, ◌+◌, Bool, ◌||◌,
 use Rattle.std.specs.List.{filter_map}
 use Rattle.std.specs.BTreeMap.{get}
 use Rattle.std.specs.Ordering.{nat_cmp}
-use Rattle.rn_translate.specs.declared.prefixes.BoundUri.{BoundUri}
 use Rattle.rn_translate.specs.declared.prefixes.Prefixes.{Prefixes}
 use Rattle.rn_translate.specs.declared.terms.Placed.{Placed}
 use Rattle.rn_translate.specs.declared.terms.Term.{Term}

@@ -1,5 +1,5 @@
 -- The table of URIs: namespaces (RELAX NG 2001, 4.9) and datatype libraries (4.3), by their indices.
-use Rattle.std.specs.Prelude.{◌≡◌, ℕ, ◌<◌, Bool, true, ◌||◌, List, [], ◌∷◌, ◌++◌, Option, Some, None, All, option_map, unwrap_or, slice_get, string_bytes, bytes_eq, codes}
+use Rattle.std.specs.Prelude.{◌≡◌, ℕ, ◌<◌, Bool, true, ◌||◌, [], ◌∷◌, ◌++◌, Option, Some, None, All, option_map, slice_get, string_bytes, bytes_eq, codes}
 use Rattle.std.specs.BTreeMap.{get_by}
 use Rattle.std.specs.Borrow.{Bor}
 use Rattle.std.specs.Cmp.Lexicographic.{slice_cmp}

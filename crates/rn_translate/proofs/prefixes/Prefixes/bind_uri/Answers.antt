@@ -1,9 +1,6 @@
 -- A URI to which none is bound gets the next number.
-use Rattle.std.proofs.Common.{◌≡◌, ◌+◌, length, refl, sym, ap, ◌∙◌, arith, true, false}
+use Rattle.std.proofs.Common.{◌≡◌, ◌+◌, length, refl, sym, ap, ◌∙◌, arith}
 use Rattle.std.specs.Prelude.{is_some}
-use Rattle.std.specs.BTreeMap.{get}
-use Rattle.std.specs.Ordering.{nat_cmp}
-use Rattle.std.specs.Option.{option_copied}
 use Rattle.rn_translate.proofs.BoundUris.{bound_already, bound_newly, copied_some}
 use Rattle.rn_translate.proofs.prefixes.Prefixes.bind_uri.Goals as goal
 

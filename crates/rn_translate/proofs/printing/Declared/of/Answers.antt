@@ -1,5 +1,5 @@
 -- What one more term needs is bound.
-use Rattle.std.proofs.Common.{◌≡◌, ◌<◌, ◌+◌, length, get_or, subst, arith}
+use Rattle.std.proofs.Common.{◌≡◌, ◌<◌, length, get_or, subst, arith}
 use Rattle.rn_translate.specs.declared.terms.Placed.{Placed}
 use Rattle.rn_translate.specs.inside.NeededPrefixes.{HasBound, needed_library, needed_namespace}
 use Rattle.rn_translate.proofs.BoundUris.{bound_more}

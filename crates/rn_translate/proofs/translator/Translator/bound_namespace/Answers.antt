@@ -1,5 +1,5 @@
 -- The innermost declaration of the prefix, and its namespace.
-use Rattle.std.proofs.Common.{◌≡◌, [], sym, ap, ◌∙◌, Some, None}
+use Rattle.std.proofs.Common.{◌≡◌, sym, ap, ◌∙◌, Some, None}
 use Rattle.std.specs.Prelude.{slice_get}
 use Rattle.rn_text.specs.Texts.{Text}
 use Rattle.rn_xml.specs.PrefixScopes.{around, innermost}

@@ -14,6 +14,6 @@ pub returns-clause-scope : goal.returns-clause-scope
 returns-clause-scope c = λ row scope there is.
     let b = c.put_end.new.self in
     let document : b.document ≡ c.args.self.now.document = ap (λ (t : Translator). t.document) c.in_ok-put_end.ensures.same in
-    c.leave_scope.ensures.scope row scope (ap (λ d. slice_get d.now.elements.items c.args.level.«open».index) document ∙ there)
+    c.leave_scope.ensures.left row scope (ap (λ d. slice_get d.now.elements.items c.args.level.«open».index) document ∙ there)
     (subst (λ d. IsInScope b (declared_at d.now row ++ scope)) (sym document)
     (in_scope_still _ b _ _ c.in_ok-put_end.ensures is))

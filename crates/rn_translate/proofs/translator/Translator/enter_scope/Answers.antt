@@ -1,5 +1,5 @@
 -- One more declaration is entered; at the end all are.
-use Rattle.std.proofs.Common.{◌≡◌, ◌+◌, ◌<◌, ◌∷◌, [], ◌++◌, length, get_or, take, refl, sym, ap, ◌∙◌, subst, arith, Some}
+use Rattle.std.proofs.Common.{◌≡◌, ◌+◌, [], ◌++◌, get_or, take, refl, sym, ap, ◌∙◌, subst, arith, Some}
 use Rattle.std.specs.Prelude.{map, slice_get}
 use Rattle.std.proofs.lemmas.Option.{slice_get-get_or, slice_get_within}
 use Rattle.std.proofs.lemmas.List.{take_all}
@@ -23,7 +23,7 @@ declarations-preserved c =
     let r = get_or rows i nothing in
     let old = c.declarations.self in
     let there : slice_get table.items (c.args.element.now.declarations.from + i) ≡ Some r =
-        row_at c.args.element.now.declarations table.items i r (ap (λ xs. slice_get xs i) (sym c.declarations_of-declaration-items.ensures) ∙ slice_get-get_or rows i nothing c.declarations-test.true) in
+    row_at c.args.element.now.declarations table.items i r (ap (λ xs. slice_get xs i) (sym c.declarations_of-declaration-items.ensures) ∙ slice_get-get_or rows i nothing c.declarations-test.true) in
     let short = slice_get_within table.items (c.args.element.now.declarations.from + i) r there in
     let index : c.saturating_add.result ≡ c.args.element.now.declarations.from + i = omega (arith, c.saturating_add.ensures, short, table.small) in
     let same = c.declarations.invariant.same in

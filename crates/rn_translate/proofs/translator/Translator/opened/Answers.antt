@@ -1,11 +1,9 @@
 -- The element that opens means what comes next.
-use Rattle.std.proofs.Common.{◌≡◌, Bool, true, refl, sym, ap, ◌∙◌, subst, Some, None}
+use Rattle.std.proofs.Common.{◌≡◌, refl, sym, ap, ◌∙◌, subst, Some, None}
 use Rattle.std.specs.Prelude.{Option, option_map, is_some, codes, ◌++◌}
-use Rattle.rn_translate.specs.inside.Terms.{Namespace}
 use Rattle.rn_translate.specs.inside.SchemaElements.{bare_in, nearest, value_of}
 use Rattle.rn_translate.specs.inside.Layouts.{Written}
 use Rattle.rn_translate.specs.inside.Meanings.{uri_meant}
-use Rattle.rn_translate.specs.inside.Translation.{written}
 use Rattle.rn_translate.specs.inside.ElementsMeant.{IsInScope, IsMeant, KnowsUris, attributes_at, declared_at}
 use Rattle.rn_xml.specs.declared.document.XmlElement.{XmlElement}
 use Rattle.rn_translate.specs.declared.translator.Open.{Open}
@@ -36,11 +34,11 @@ returns-clause-meant c = λ e comes.
     let knows = knows_in a b inherited.scope.knows in
     let inside = comes.has_inside in
     let namespace = subst (λ t. KnowsUris t → uri_meant t.uris c.args.around.namespace ≡ Some context.namespace
-        → uri_meant t.uris c.namespace_at.result ≡ Some (nearest context.namespace (value_of (codes "ns") (attributes_at t.document.now row)))) same (c.namespace_at.ensures context.namespace) in
+    → uri_meant t.uris c.namespace_at.result ≡ Some (nearest context.namespace (value_of (codes "ns") (attributes_at t.document.now row)))) same (c.namespace_at.ensures context.namespace) in
     let library = subst (λ t. KnowsUris t → uri_meant t.uris c.args.around.library ≡ Some context.library
-        → uri_meant t.uris c.library_at.result ≡ Some (nearest context.library (value_of (codes "datatypeLibrary") (attributes_at t.document.now row)))) same (c.library_at.ensures context.library) in
+    → uri_meant t.uris c.library_at.result ≡ Some (nearest context.library (value_of (codes "datatypeLibrary") (attributes_at t.document.now row)))) same (c.library_at.ensures context.library) in
     let bare = subst (λ t. KnowsUris t → uri_meant t.uris t.default ≡ Some comes.default → uri_meant t.uris c.args.around.bare ≡ Some context.bare
-        → uri_meant t.uris c.bare_in.result ≡ Some (bare_in comes.default context.bare kind)) same (c.bare_in.ensures comes.default context.bare) in
+    → uri_meant t.uris c.bare_in.result ≡ Some (bare_in comes.default context.bare kind)) same (c.bare_in.ensures comes.default context.bare) in
     let scope = subst (λ t. IsInScope t (declared_at a.document.now row ++ context.scope)) same (c.in_ok-enter_scope.ensures.scope context.scope inherited.scope inside.distinct) in
     finish a b row _ e _ same comes.is (record {
       kind = refl;

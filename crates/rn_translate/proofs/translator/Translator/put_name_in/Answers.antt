@@ -1,5 +1,5 @@
 -- A name has a prefix where its namespace isn't that of names without one.
-use Rattle.std.proofs.Common.{◌≡◌, ◌∷◌, [], sym, ap, ◌∙◌, Some}
+use Rattle.std.proofs.Common.{◌∷◌, [], sym, ap, ◌∙◌, Some}
 use Rattle.std.specs.Prelude.{Option}
 use Rattle.std.specs.Option.{option_map}
 use Rattle.rn_translate.specs.inside.Terms.{Namespace, Term, prefixed}

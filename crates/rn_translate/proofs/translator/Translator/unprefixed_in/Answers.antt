@@ -2,7 +2,7 @@
 use Rattle.std.proofs.Common.{◌≡◌, [], sym, ap, ◌∙◌, refl, Some}
 use Rattle.std.specs.Prelude.{codes, is_some, if◌then◌else◌, Option}
 use Rattle.rn_text.specs.Texts.{Text}
-use Rattle.rn_translate.specs.inside.Terms.{Namespace, uri}
+use Rattle.rn_translate.specs.inside.Terms.{uri}
 use Rattle.rn_translate.specs.inside.SchemaElements.{value_of}
 use Rattle.rn_translate.specs.inside.Layouts.{Written, unprefixed_in}
 use Rattle.rn_translate.specs.declared.kinds.Kind.{Kind}

@@ -1,7 +1,7 @@
 -- The brace of the first, the name, the text, and the brace of the last.
-use Rattle.std.proofs.Common.{◌∷◌, [], ◌++◌, sym, ap, ◌∙◌, Some, append_assoc}
+use Rattle.std.proofs.Common.{◌∷◌, [], sym, ap, ◌∙◌, Some, append_assoc}
 use Rattle.std.specs.Prelude.{codes, unwrap_or}
-use Rattle.rn_translate.specs.inside.Terms.{literal, local, open_brace, close_brace, symbol}
+use Rattle.rn_translate.specs.inside.Terms.{literal, local, open_brace, close_brace}
 use Rattle.rn_translate.specs.inside.SchemaElements.{trimmed, value_of}
 use Rattle.rn_translate.specs.inside.Layouts.{if_so}
 use Rattle.rn_translate.proofs.AddedTerms.{adds_equal, adds_more}

@@ -1,6 +1,5 @@
 -- A text that has no index gets the next one.
-use Rattle.std.proofs.Common.{◌≡◌, sym, ap, ◌∙◌, Bor, ℕ, None, length, arith}
-use Rattle.std.specs.Prelude.{Option}
+use Rattle.std.proofs.Common.{◌≡◌, sym, ap, ◌∙◌, None, length, arith}
 use Rattle.std.specs.Option.{option_copied}
 use Rattle.std.proofs.lemmas.Map.Text.{btree_map_updates_str}
 use Rattle.rn_translate.specs.inside.UriTables.{index_of}

@@ -1,5 +1,5 @@
 -- The URI of the next one is pushed.
-use Rattle.std.proofs.Common.{◌≡◌, ◌<◌, ◌≤◌, ◌+◌, length, get_or, take, sym, ap, ◌∙◌, subst, arith, Some}
+use Rattle.std.proofs.Common.{◌≡◌, ◌<◌, ◌≤◌, length, get_or, sym, ap, ◌∙◌, subst, arith, Some}
 use Rattle.std.specs.Prelude.{string_bytes}
 use Rattle.rn_text.specs.Texts.{Text}
 use Rattle.std.proofs.lemmas.List.{take_all}

@@ -1,5 +1,5 @@
 -- Four texts, of which the first is that of the inherited namespace.
-use Rattle.std.proofs.Common.{◌≡◌, [], ◌∷◌, ◌++◌, refl, ap, nat_cmp}
+use Rattle.std.proofs.Common.{refl, ap, nat_cmp}
 use Rattle.std.specs.BTreeMap.{is_at}
 use Rattle.std.specs.Cmp.Lexicographic.{slice_cmp}
 use Rattle.std.specs.Map.{lookup}
