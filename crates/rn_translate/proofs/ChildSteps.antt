@@ -139,7 +139,7 @@ module _ (s t : Translator) (row : XmlElement) (l : Level) where
 
 -- ---- the terms of a child
 
-terms_of : (default : Namespace) (c : Context) (place : Place) (n : Name) (bound : List Binding) (attributes : List Attribute) (inside : Nodes) (kind : Kind) → kind_of n ≡ Some kind
+pub terms_of : (default : Namespace) (c : Context) (place : Place) (n : Name) (bound : List Binding) (attributes : List Attribute) (inside : Nodes) (kind : Kind) → kind_of n ≡ Some kind
     → terms default c place (element n bound attributes inside)
     ≡ begins (written default c place kind bound attributes inside) kind
     ++ (children (written default c place kind bound attributes inside) (layout (written default c place kind bound attributes inside) kind) 0 inside

@@ -28,3 +28,4 @@ pub mod OpenSteps
 pub mod ChildSteps
 pub mod PrintedMeanings
 pub mod LeftScopes
+pub mod RootSteps
