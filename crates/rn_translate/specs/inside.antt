@@ -4,8 +4,13 @@ pub mod Meanings
 pub mod SignTokens
 pub mod DraftTokens
 pub mod Walks
+pub mod UriTables
 pub mod ElementsMeant
+pub mod OpenLevels
 pub mod PrintedTerms
+pub mod NeededPrefixes
+pub mod SchemaTokens
+pub mod PrintedSchemas
 pub mod Terms
 pub mod SchemaElements
 pub mod Layouts

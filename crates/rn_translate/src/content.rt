@@ -1,4 +1,7 @@
 // What elements of RELAX NG hold (RELAX NG 2001, section 3).
+ghost use Rattle.std.specs.Prelude.{◌≡◌, ◌-◌, ◌&&◌, not, if◌then◌else◌};
+ghost use Rattle.rn_translate.specs.inside.Layouts.{has_name};
+
 use crate::kinds::{Kind, Role};
 use crate::rng_fault::RngFaultKind;
 
@@ -15,7 +18,9 @@ pub(crate) struct Holder {
 
 impl Holder {
     /// Whether it begins with a name class.
-    pub fn begins_with_class(self) -> bool {
+    pub fn begins_with_class(self) -> bool
+        ensures { result ≡ (has_name self.kind && not self.is_named) }
+    {
         matches!(self.kind, Kind::Element | Kind::Attribute) && !self.is_named
     }
 
@@ -44,7 +49,10 @@ impl Holder {
     }
 
     /// How many of so many children are patterns or name classes of its own, and no class that names it.
-    pub fn members(self, children: usize) -> usize {
+    pub fn members(self, children: usize) -> usize
+        ensures { result ≡ (if has_name self.kind && not self.is_named then children - 1
+            else children) }
+    {
         if self.begins_with_class() {
             children.saturating_sub(1)
         } else {

@@ -1,10 +1,11 @@
 // What each element of RELAX NG comes to in the compact text (compact syntax, section 3).
-ghost use Rattle.std.specs.Prelude.{◌≡◌, ◌∷◌, ◌++◌, [], codes, IfOk, OnOk};
-ghost use Rattle.rn_translate.specs.inside.Terms.{keyword as keyword_term, close_brace, open_brace, open_parenthesis, close_parenthesis, symbol};
-ghost use Rattle.rn_translate.specs.inside.Layouts.{around, begins_operands, closing, if_so, is_tight, opening, operands, then_behind};
+ghost use Rattle.std.specs.Prelude.{◌≡◌, ◌∷◌, ◌++◌, [], codes, unwrap_or, IfOk, OnOk};
+ghost use Rattle.rn_translate.specs.inside.Terms.{keyword as keyword_term, close_brace, identifier, open_brace, open_parenthesis, close_parenthesis, symbol};
+ghost use Rattle.rn_translate.specs.inside.SchemaElements.{name_in, value_of};
+ghost use Rattle.rn_translate.specs.inside.Layouts.{Written, around, begins, begins_operands, if_so, is_tight, layout, operands, then_behind};
 ghost use Rattle.rn_translate.specs.inside.Meanings.{Adds, is_parted, layout_meant, sign_terms};
+ghost use Rattle.rn_translate.specs.inside.ElementsMeant.{IsMeant, attributes_at};
 
-use crate::content::Holder;
 use crate::document_parts::{attribute, trimmed};
 use crate::kinds::Kind;
 use crate::rng_fault::RngFault;
@@ -12,13 +13,15 @@ use crate::signs::Sign;
 use crate::standing::{Layout, Operator, Standing};
 use crate::terms::Term;
 use crate::translator::{Open, Translator};
-use crate::uris::Uri;
 use rn_text::Keyword;
-use rn_xml::{XmlAttribute, XmlElement};
+use rn_xml::XmlElement;
 
 impl<'d, 'a> Translator<'d, 'a> {
     /// The value of an attribute, and its place; nothing at the element where it has no such attribute.
-    pub fn value(&self, element: &'d XmlElement<'a>, local: &str) -> (usize, &'d str) {
+    pub fn value(&self, element: &'d XmlElement<'a>, local: &str) -> (usize, &'d str)
+        ensures { result.1.now ≡ unwrap_or
+            (value_of local.now (attributes_at self.now.document.now element.now)) [] }
+    {
         match attribute(self.document, element, local) {
             Some(found) => (found.value_at, found.value.as_str()),
             None => (element.at, ""),
@@ -30,7 +33,12 @@ impl<'d, 'a> Translator<'d, 'a> {
         &mut self,
         element: &'d XmlElement<'a>,
         open: Open,
-    ) -> Result<Layout, RngFault> {
+    ) -> Result<Layout, RngFault>
+        ensures added { (e : Written) → IsMeant self.old element.now «open» e
+            → OnOk result (Adds self.old self.new (begins e e.kind)) }
+        ensures layout { (e : Written) → IsMeant self.old element.now «open» e
+            → IfOk result (λ l. layout_meant l ≡ layout e e.kind) }
+    {
         let at = element.at;
         match open.holder.kind {
             Kind::Element => self.write_named(element, open, Keyword::Element),
@@ -53,48 +61,16 @@ impl<'d, 'a> Translator<'d, 'a> {
             Kind::Param => self.write_param(element, open),
             Kind::Except => self.write_except(at, open),
             Kind::Name => self.write_name(element, open),
-            Kind::AnyName | Kind::NsName => self.write_wildcard(at, open),
-            _ => self.write_item(element, open),
+            Kind::AnyName => self.write_wildcard(at, open, Term::AnyName),
+            Kind::NsName => self.write_wildcard(at, open, Term::AnyOf(open.context.namespace)),
+            Kind::Grammar
+            | Kind::Start
+            | Kind::Define
+            | Kind::Div
+            | Kind::Include
+            | Kind::ExternalRef
+            | Kind::Foreign => self.write_item(element, open),
         }
-    }
-
-    /// Writes an element or an attribute: its name, if it is an attribute, and what opens its content.
-    fn write_named(
-        &mut self,
-        element: &'d XmlElement<'a>,
-        open: Open,
-        keyword: Keyword,
-    ) -> Result<Layout, RngFault> {
-        let members = open.holder.members(open.children.count);
-        self.put(element.at, Term::Keyword(keyword))?;
-        if let Some(name) = attribute(self.document, element, "name") {
-            self.put_given_name(element, open, name)?;
-            self.put_sign(element.at, opening(members))?;
-        }
-        Ok(named_layout(open.holder, members))
-    }
-
-    /// Writes the name that the attribute `name` gives. That of an attribute has no namespace where neither its prefix nor
-    /// its own `ns` gives one (4.8).
-    fn put_given_name(
-        &mut self,
-        element: &'d XmlElement<'a>,
-        open: Open,
-        name: &'d XmlAttribute<'a>,
-    ) -> Result<(), RngFault> {
-        let has_none = open.holder.kind == Kind::Attribute
-            && attribute(self.document, element, "ns").is_none();
-        let unprefixed = if has_none {
-            Uri::EMPTY
-        } else {
-            open.context.namespace
-        };
-        self.put_name(
-            name.value_at,
-            name.value.as_str(),
-            unprefixed,
-            open.context.bare,
-        )
     }
 
     /// Writes a group, an interleave or a choice.
@@ -184,42 +160,29 @@ impl<'d, 'a> Translator<'d, 'a> {
     }
 
     /// Writes a reference.
-    fn write_reference(&mut self, element: &'d XmlElement<'a>) -> Result<Layout, RngFault> {
+    fn write_reference(&mut self, element: &'d XmlElement<'a>) -> Result<Layout, RngFault>
+        ensures added { OnOk result (Adds self.old self.new (identifier
+            (name_in (codes "name") (attributes_at self.old.document.now element.now)) ∷ [])) }
+        ensures layout { IfOk result (λ l. layout_meant l ≡ around []) }
+    {
         let (at, name) = self.value(element, "name");
         self.put_identifier(at, trimmed(name))?;
         Ok(Layout::none())
     }
 
     /// Writes a reference to the grammar around.
-    fn write_parent_reference(&mut self, element: &'d XmlElement<'a>) -> Result<Layout, RngFault> {
+    fn write_parent_reference(&mut self, element: &'d XmlElement<'a>) -> Result<Layout, RngFault>
+        ensures added { OnOk result (Adds self.old self.new (keyword_term Keyword.Parent
+            ∷ identifier (name_in (codes "name")
+            (attributes_at self.old.document.now element.now)) ∷ [])) }
+        ensures layout { IfOk result (λ l. layout_meant l ≡ around []) }
+    {
         self.put(element.at, Term::Keyword(Keyword::Parent))?;
         self.write_reference(element)
     }
 
-    /// Writes a value, with its datatype if it gives one.
-    fn write_value(&mut self, element: &'d XmlElement<'a>, open: Open) -> Result<Layout, RngFault> {
-        if let Some(datatype) = attribute(self.document, element, "type") {
-            self.put_datatype(
-                datatype.value_at,
-                trimmed(datatype.value.as_str()),
-                open.context.library,
-            )?;
-        }
-        let (at, content) = self.content(open.index, element.at);
-        self.put(at, Term::Literal(content))?;
-        Ok(Layout::none())
-    }
-
-    /// Writes data without its parameters and its except.
-    fn write_data(&mut self, element: &'d XmlElement<'a>, open: Open) -> Result<Layout, RngFault> {
-        let layout = self.begin_excepted(element.at, open)?;
-        let (at, datatype) = self.value(element, "type");
-        self.put_datatype(at, trimmed(datatype), open.context.library)?;
-        Ok(layout)
-    }
-
     /// Begins what may have an except, with parentheses where that needs them.
-    fn begin_excepted(&mut self, at: usize, open: Open) -> Result<Layout, RngFault>
+    pub fn begin_excepted(&mut self, at: usize, open: Open) -> Result<Layout, RngFault>
         ensures added { OnOk result (Adds self.old self.new
             (if_so (is_parted «open») open_parenthesis)) }
         ensures layout { IfOk result (λ l. layout_meant l
@@ -227,25 +190,6 @@ impl<'d, 'a> Translator<'d, 'a> {
     {
         let closing = self.put_parenthesis(at, open.is_parted())?;
         Ok(Layout::around(Standing::Alone, closing))
-    }
-
-    /// Writes a parameter, and the braces round all of them with the first and the last one.
-    fn write_param(&mut self, element: &'d XmlElement<'a>, open: Open) -> Result<Layout, RngFault> {
-        let front = if open.place.is_first {
-            Sign::OpenBrace
-        } else {
-            Sign::Space
-        };
-        self.put_sign(element.at, front)?;
-        let (name_at, name) = self.value(element, "name");
-        self.put_local_name(name_at, trimmed(name))?;
-        self.put_sign(name_at, Sign::Equals)?;
-        let (at, content) = self.content(open.index, element.at);
-        self.put(at, Term::Literal(content))?;
-        if open.place.is_last {
-            self.put_sign(element.at, Sign::CloseBrace)?;
-        }
-        Ok(Layout::none())
     }
 
     /// Writes an except: several children are a choice (4.12).
@@ -257,61 +201,5 @@ impl<'d, 'a> Translator<'d, 'a> {
     {
         self.put_sign(at, Sign::Minus)?;
         self.put_operands(at, Standing::Tight, Operator::Bar, open.children.count)
-    }
-
-    /// Writes the class of one name. Refused where its text is no name.
-    fn write_name(&mut self, element: &'d XmlElement<'a>, open: Open) -> Result<Layout, RngFault> {
-        let (at, content) = self.content(open.index, element.at);
-        self.check_name(at, content)?;
-        self.put_name(at, content, open.context.namespace, open.context.bare)?;
-        Ok(Layout::none())
-    }
-
-    /// Writes the class of all names, or of those of a namespace, without its except.
-    fn write_wildcard(&mut self, at: usize, open: Open) -> Result<Layout, RngFault> {
-        let layout = self.begin_excepted(at, open)?;
-        let class = if open.holder.kind == Kind::NsName {
-            Term::AnyOf(open.context.namespace)
-        } else {
-            Term::AnyName
-        };
-        self.put(at, class)?;
-        Ok(layout)
-    }
-}
-
-/// What opens a content of so many members: of none, it is any text.
-fn opening(members: usize) -> Sign
-    ensures { sign_terms result ≡ opening members }
-{
-    if members > 0 {
-        Sign::OpenBrace
-    } else {
-        Sign::BracedText
-    }
-}
-
-/// What closes a content of so many members.
-fn closing(members: usize) -> Sign
-    ensures { sign_terms result ≡ closing members }
-{
-    if members > 0 {
-        Sign::CloseBrace
-    } else {
-        Sign::Nothing
-    }
-}
-
-/// How so many members of an element or an attribute are written, and its name class before them.
-fn named_layout(holder: Holder, members: usize) -> Layout {
-    let operands = Layout::operands(Standing::Alone, Operator::Comma, members);
-    let class = if holder.is_named {
-        Sign::Nothing
-    } else {
-        opening(members)
-    };
-    Layout {
-        class,
-        ..operands.then(closing(members), Sign::Nothing)
     }
 }

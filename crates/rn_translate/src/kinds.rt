@@ -1,4 +1,6 @@
 // The elements of RELAX NG, and where each may be (RELAX NG 2001, section 3).
+ghost use Rattle.std.specs.Prelude.{◌≡◌, Some};
+ghost use Rattle.rn_translate.specs.inside.SchemaElements.{holds_text, is_foreign, kind_in, kind_name, kinds};
 
 /// An element of RELAX NG, or one of another vocabulary.
 #[derive(Clone, Copy, Debug, PartialEq, Eq)]
@@ -97,12 +99,16 @@ static ELEMENTS: [Kind; 28] = [
 
 impl Kind {
     /// The element of RELAX NG that has this local name.
-    pub fn of_name(local: &str) -> Option<Kind> {
+    pub fn of_name(local: &str) -> Option<Kind>
+        ensures { result ≡ kind_in kinds local.now }
+    {
         ELEMENTS.iter().find(|kind| kind.name() == local).copied()
     }
 
     /// The local name of the element.
-    pub fn name(self) -> &'static str {
+    pub fn name(self) -> &'static str
+        ensures { result.now ≡ kind_name self }
+    {
         match self {
             Kind::Element => "element",
             Kind::Attribute => "attribute",
@@ -152,8 +158,17 @@ impl Kind {
         )
     }
 
+    /// Whether it is of another vocabulary.
+    pub fn is_foreign(self) -> bool
+        ensures { result ≡ is_foreign (Some self) }
+    {
+        matches!(self, Kind::Foreign)
+    }
+
     /// Whether the element holds a text (`name`, `value` and `param`).
-    pub fn holds_text(self) -> bool {
+    pub fn holds_text(self) -> bool
+        ensures { result ≡ holds_text self }
+    {
         matches!(self, Kind::Name | Kind::Value | Kind::Param)
     }
 }

@@ -6,11 +6,13 @@
 #![tactic(auto)]
 
 mod content;
+mod datatypes;
 mod document_parts;
 mod draft;
 mod elements;
 mod items;
 mod kinds;
+mod name_classes;
 mod prefixes;
 mod printing;
 mod rng_fault;
@@ -22,6 +24,7 @@ mod translated;
 mod translation;
 mod translator;
 mod uris;
+mod walk;
 mod written_names;
 
 pub use draft::{MAX_TEXT, Origin};

@@ -1,8 +1,9 @@
 // Prefixes of namespaces and datatype libraries in the compact text.
-ghost use Rattle.std.specs.Prelude.{◌≡◌, true, IfOk, string_bytes};
+ghost use Rattle.std.specs.Prelude.{◌≡◌, [], true, IfOk, OnOk, Some, string_bytes};
 ghost use Rattle.std.specs.Str.{chars};
 ghost use Rattle.rn_text.specs.Characters.{is_name_start, is_ncname};
 ghost use Rattle.rn_translate.specs.inside.PrintedTerms.{number_of, numbered_bytes};
+ghost use Rattle.rn_translate.specs.inside.NeededPrefixes.{AreBound, AreNumbered, HasBound};
 
 use crate::uris::Uri;
 use std::alloc::{AllocError, Global};
@@ -37,15 +38,29 @@ pub(crate) struct Prefixes {
 
 impl Prefixes {
     /// No prefixes.
-    pub fn new(alloc: Global) -> Prefixes {
+    pub fn new(alloc: Global) -> Prefixes
+        ensures { AreBound result [] }
+    {
         Prefixes {
             bound: Vec::new(alloc),
             numbers: BTreeMap::new(alloc),
         }
     }
 
-    /// Binds a prefix to a URI, which is needed at this place, if none is bound to it yet.
-    pub fn bind(&mut self, uri: Uri, at: usize) -> Result<(), AllocError> {
+    /// Binds a prefix to the URI that is needed at this place, if one is and none is bound to it yet.
+    pub fn bind(&mut self, needed: Option<Uri>, at: usize) -> Result<(), AllocError>
+        ensures { AreNumbered self.old → OnOk result (HasBound self.old self.new needed) }
+    {
+        match needed {
+            Some(uri) => self.bind_uri(uri, at),
+            None => Ok(()),
+        }
+    }
+
+    /// Binds a prefix to a URI that is needed at this place, if none is bound to it yet.
+    fn bind_uri(&mut self, uri: Uri, at: usize) -> Result<(), AllocError>
+        ensures { AreNumbered self.old → OnOk result (HasBound self.old self.new (Some uri)) }
+    {
         if self.numbers.get(&uri.index).is_some() {
             return Ok(());
         }

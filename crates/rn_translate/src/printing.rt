@@ -1,8 +1,12 @@
 // The compact text of terms, after the declarations of their prefixes.
-ghost use Rattle.std.specs.Prelude.{◌≡◌, [], true, IfOk, OnOk, string_bytes};
+ghost use Rattle.std.specs.Prelude.{◌≡◌, [], true, List, IfOk, OnOk, string_bytes};
 ghost use Rattle.std.specs.Str.{chars};
 ghost use Rattle.rn_text.specs.Characters.{is_name_start, is_ncname};
+ghost use Rattle.rn_translate.specs.inside.Terms.{Namespace, Term as MeantTerm};
 ghost use Rattle.rn_translate.specs.inside.DraftTokens.{IsPrintedAs, Writes};
+ghost use Rattle.rn_translate.specs.inside.SchemaTokens.{schema_tokens};
+ghost use Rattle.rn_translate.specs.inside.PrintedSchemas.{IsPrintable};
+ghost use Rattle.rn_translate.specs.inside.NeededPrefixes.{AreBound, each_once, needed_libraries, needed_library, needed_namespace, needed_namespaces, unless};
 ghost use Rattle.rn_translate.specs.inside.PrintedTerms.{bound_tokens, datatype_token, declared_tokens, default_tokens, is_built_in, prefix_bytes, prefix_tokens, prefixes_tokens, printed_tokens, term_tokens, terms_tokens, uri_tokens};
 
 use crate::draft::Draft;
@@ -28,13 +32,20 @@ pub(crate) struct Declared<'u, 'd> {
 }
 
 /// The namespace whose prefix a term needs.
-fn needed_namespace(term: Term<'_>) -> Option<Uri> {
+fn needed_namespace(term: Term<'_>) -> Option<Uri>
+    ensures { result ≡ needed_namespace term.entry }
+{
     match term {
-        Term::Named(uri, _) | Term::AnyOf(uri) | Term::Prefix(uri) if !uri.is(Uri::XML) => Some(
-            uri,
-        ),
+        Term::Named(uri, _) | Term::AnyOf(uri) | Term::Prefix(uri) => unless(uri.is(Uri::XML), uri),
         _ => None,
     }
+}
+
+/// A URI, unless something is so.
+fn unless(is_so: bool, uri: Uri) -> Option<Uri>
+    ensures { result ≡ unless is_so uri }
+{
+    if is_so { None } else { Some(uri) }
 }
 
 /// Whether a datatype of a library is one that a keyword names (compact syntax, section 2).
@@ -45,10 +56,14 @@ fn is_built_in(library: Uri, name: &str) -> bool
 }
 
 /// The library whose prefix a term needs.
-fn needed_library(term: Term<'_>) -> Option<Uri> {
+fn needed_library(term: Term<'_>) -> Option<Uri>
+    ensures { result ≡ needed_library term.entry }
+{
     match term {
-        Term::Datatype(library, name) if !library.is(Uri::XSD) && !is_built_in(library, name) =>
-            Some(library),
+        Term::Datatype(library, name) => unless(
+            library.is(Uri::XSD) || is_built_in(library, name),
+            library,
+        ),
         _ => None,
     }
 }
@@ -60,16 +75,19 @@ impl<'u, 'd> Declared<'u, 'd> {
         uris: &'u Uris<'d>,
         default: Uri,
         terms: &[Placed<'_>],
-    ) -> Result<Declared<'u, 'd>, RngFault> {
+    ) -> Result<Declared<'u, 'd>, RngFault>
+        ensures uris { IfOk result (λ declared. declared.uris.now ≡ uris.now) }
+        ensures default { IfOk result (λ declared. declared.default ≡ default) }
+        ensures namespaces { IfOk result (λ declared. AreBound declared.namespaces
+            (each_once (needed_namespaces terms.now))) }
+        ensures libraries { IfOk result (λ declared. AreBound declared.libraries
+            (each_once (needed_libraries terms.now))) }
+    {
         let mut namespaces = Prefixes::new(alloc);
         let mut libraries = Prefixes::new(alloc);
         'terms: for placed in terms {
-            if let Some(namespace) = needed_namespace(placed.term) {
-                namespaces.bind(namespace, placed.at)?;
-            }
-            if let Some(library) = needed_library(placed.term) {
-                libraries.bind(library, placed.at)?;
-            }
+            namespaces.bind(needed_namespace(placed.term), placed.at)?;
+            libraries.bind(needed_library(placed.term), placed.at)?;
         }
         Ok(Declared {
             uris,
@@ -289,6 +307,9 @@ pub(crate) fn print(
     ensures source { IfOk result (λ whole. whole.source_len ≡ source_len) }
     ensures tokens { IfOk result (λ whole. IsPrintedAs whole
         (printed_tokens declared.now terms.now)) }
+    ensures meant { (default : Namespace) (ts : List MeantTerm)
+        → IsPrintable declared.now terms.now default ts
+        → IfOk result (λ whole. IsPrintedAs whole (schema_tokens default ts)) }
 {
     let mut whole = Draft::new(alloc, source_len);
     whole.put_declarations(alloc, declared)?;

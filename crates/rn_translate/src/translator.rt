@@ -1,14 +1,22 @@
 // The walk over the elements of a document, which collects the terms of its compact text.
-ghost use Rattle.std.specs.Prelude.{◌≡◌, ◌<◌, ◌≤◌, ◌+◌, ◌-◌, ◌*◌, ◌^◌, true, List, IfOk, IsSome, OnOk, vec_len};
-ghost use Rattle.rn_translate.specs.inside.Terms.{Term as MeantTerm};
-ghost use Rattle.rn_translate.specs.inside.Meanings.{Adds, is_parted, known, sign_terms, term_meant};
+ghost use Rattle.std.specs.Prelude.{◌≡◌, ◌==◌, ◌<◌, ◌≤◌, ◌+◌, ◌-◌, ◌*◌, ◌^◌, ◌++◌, ℕ, true, false, if◌then◌else◌, nat_le, List, IfOk, OnOk, Some, codes, slice_get, vec_len};
+ghost use Rattle.rn_xml.specs.Infoset.{Nodes};
+ghost use Rattle.rn_xml.specs.XmlTags.{AreDistinct, Scope};
+ghost use Rattle.rn_translate.specs.inside.Terms.{Namespace, Term as MeantTerm};
+ghost use Rattle.rn_translate.specs.inside.SchemaElements.{bare_in, nearest, text_of, value_of};
+ghost use Rattle.rn_translate.specs.inside.Layouts.{Written, begins, layout};
+ghost use Rattle.rn_translate.specs.inside.Translation.{before_child, behind_child, standing_of};
+ghost use Rattle.rn_translate.specs.inside.UriTables.{gives_uri};
+ghost use Rattle.rn_translate.specs.inside.ElementsMeant.{Comes, IsChildOf, IsInScope, IsMeant, KnowsUris, attributes_at, declared_at};
+ghost use Rattle.rn_translate.specs.inside.Meanings.{Adds, AddsInScope, class_meant, is_parted, known, layout_meant, sign_terms, term_meant, uri_meant};
 ghost use Rattle.rn_translate.specs.inside.TermNames.{has_names};
-ghost use Rattle.rn_translate.specs.inside.Walks.{content_at};
+ghost use Rattle.rn_translate.specs.inside.Walks.{AreNested, IsContent, content_at};
+ghost use Rattle.rn_translate.specs.inside.OpenLevels.{IsAtStart, IsLevelOf, IsOpenOf};
 
 use crate::content::{Holder, needed_attribute};
-use crate::document_parts::{Children, attribute, behind, children_of, kind_of, uri_at};
+use crate::document_parts::{Children, attribute, children_of, content_of, element_at};
 use crate::kinds::{Kind, Role};
-use crate::rng_fault::{RngFault, RngFaultKind, shown};
+use crate::rng_fault::{RngFault, RngFaultKind};
 use crate::signs::Sign;
 use crate::standing::{Layout, Standing};
 use crate::terms::{Placed, Term};
@@ -65,36 +73,22 @@ pub(crate) struct Open {
 #[derive(Clone, Copy)]
 pub(crate) struct Begun {
     /// How many.
-    count: usize,
+    pub count: usize,
     /// Whether an except is among them.
-    has_except: bool,
+    pub has_except: bool,
 }
 
 /// An element of RELAX NG that has begun, with what comes behind its children.
 #[derive(Clone, Copy)]
 pub(crate) struct Level {
     /// The element.
-    open: Open,
+    pub open: Open,
     /// How its children are written.
-    layout: Layout,
+    pub layout: Layout,
     /// Which of them have begun.
-    begun: Begun,
+    pub begun: Begun,
     /// What comes behind the element.
-    behind: Sign,
-}
-
-/// The child of an element that ends before the element `end`, if there is one of this index.
-fn child_at<'d, 'a>(
-    document: &'d XmlDocument<'a>,
-    end: usize,
-    index: usize,
-) -> Option<&'d XmlElement<'a>>
-    ensures { IsSome result → index < vec_len document.now.elements }
-{
-    if index < end {
-        return document.elements.get(index);
-    }
-    None
+    pub behind: Sign,
 }
 
 /// What is known in the middle of a document.
@@ -102,7 +96,7 @@ fn child_at<'d, 'a>(
 pub(crate) struct Translator<'d, 'a> {
     pub alloc: Global,
     /// The text of the document.
-    source: &'d str,
+    pub source: &'d str,
     pub document: &'d XmlDocument<'a>,
     pub uris: Uris<'d>,
     /// For each of the document's namespaces, its URI.
@@ -122,12 +116,12 @@ impl<'d, 'a> Translator<'d, 'a> {
         alloc: Global,
         source: &'d str,
         document: &'d XmlDocument<'a>,
-    ) -> Result<Translator<'d, 'a>, RngFault> {
+    ) -> Result<Translator<'d, 'a>, RngFault>
+        ensures knows { IfOk result (λ made. KnowsUris made) }
+        ensures start { IfOk result (λ made. (made.document.now ≡ document.now) × IsAtStart made) }
+    {
         let uris = Uris::of(alloc, document)?;
-        let mut document_uris = Vec::new(alloc);
-        for uri in &document.uris {
-            document_uris.push(uris.uri(uri.as_str()))?;
-        }
+        let document_uris = uris.namespaces(alloc, document)?;
         Ok(Translator {
             alloc,
             source,
@@ -161,151 +155,61 @@ impl<'d, 'a> Translator<'d, 'a> {
         self.put(at, Term::Sign(sign))
     }
 
-    /// Collects what each element comes to. Refused at the first fault.
-    pub fn walk(&mut self) -> Result<(), RngFault> {
-        let document = self.document;
-        let Some(root) = document.elements.get(0) else {
-            return Ok(());
-        };
-        let kind = self.known_kind(root)?;
-        if !Role::Pattern.admits(kind) {
-            return Err(self.no_schema(root)?);
-        }
-        self.default = self.namespace_at(root, Uri::INHERITED);
-        let around = Context {
-            namespace: Uri::INHERITED,
-            library: Uri::EMPTY,
-            bare: self.default,
-        };
-        let place = Place {
-            role: Role::Pattern,
-            standing: Standing::Alone,
-            is_first: true,
-            is_last: true,
-            is_root: true,
-        };
-        let root = self.begin(root, 0, kind, around, place)?;
-        self.walk_from(document, root)
-    }
-
-    /// What an element is. Refused where it is one of RELAX NG that has no name of those.
-    fn known_kind(&self, element: &XmlElement<'a>) -> Result<Kind, RngFault> {
-        match kind_of(self.document, element) {
-            Some(kind) => Ok(kind),
-            None => {
-                let local = shown(self.alloc, element.name.local)?;
-                Err(RngFault::new(element.at, RngFaultKind::Element(local)))
-            }
-        }
-    }
-
-    /// The fault of a root that is no pattern.
-    fn no_schema(&self, element: &XmlElement<'a>) -> Result<RngFault, RngFault> {
-        let kind = RngFaultKind::NoSchema {
-            local: shown(self.alloc, element.name.local)?,
-            uri: shown(self.alloc, uri_at(self.document, element.name.uri))?,
-        };
-        Ok(RngFault::new(element.at, kind))
-    }
-
-    /// Collects what an element comes to that has begun, and all that is in it.
-    fn walk_from(&mut self, document: &'d XmlDocument<'a>, root: Level) -> Result<(), RngFault> {
-        let mut levels = Vec::new(self.alloc);
-        levels.push(root)?;
-        let mut next = root.open.index.saturating_add(1);
-        'levels: while let Some(level) = levels.last().copied() {
-            next = self.step(document, &mut levels, level, next)?;
-        }
-        Ok(())
-    }
-
-    /// Begins the next child of the innermost level, or ends that. Answers the index of the element that comes then.
-    fn step(
-        &mut self,
-        document: &'d XmlDocument<'a>,
-        levels: &mut Vec<Level>,
-        level: Level,
-        next: usize,
-    ) -> Result<usize, RngFault>
-        requires { 0 < vec_len levels.old }
-        ensures { IfOk result (λ behind. 2 * (vec_len document.now.elements - behind)
-            + vec_len levels.new
-            < 2 * (vec_len document.now.elements - next) + vec_len levels.old) }
-    {
-        self.pass_texts(level.open, next)?;
-        let Some(child) = child_at(document, level.open.end, next) else {
-            let _ = levels.pop();
-            self.end(level)?;
-            return Ok(next);
-        };
-        self.enter(levels, level, next, child)
-    }
-
-    /// Begins a child of the innermost level, or passes it if it is none of RELAX NG. Refused where that level holds a
-    /// text alone. Answers the index of the element that comes then.
-    fn enter(
-        &mut self,
-        levels: &mut Vec<Level>,
-        around: Level,
-        index: usize,
-        child: &'d XmlElement<'a>,
-    ) -> Result<usize, RngFault>
-        requires { index + 1 < 2 ^ 64 }
-        ensures further { IfOk result (λ next. index < next) }
-        ensures levels { vec_len levels.new ≤ vec_len levels.old + 1 }
-    {
-        let kind = self.known_kind(child)?;
-        if kind == Kind::Foreign {
-            let outer = around.open.holder.kind;
-            if outer.holds_text() {
-                return Err(RngFault::new(child.at, RngFaultKind::Foreign(outer)));
-            }
-            let behind = behind(index, child);
-            self.pass_foreign(index, behind);
-            return Ok(behind);
-        }
-        let level = self.begin_child(around, index, child, kind)?;
-        if let Some(last) = levels.last_mut() {
-            last.begun = around.begun.and(kind);
-        }
-        levels.push(level)?;
-        Ok(index + 1)
-    }
-
     /// Begins a child of an element. Refused where it can't be there.
-    fn begin_child(
+    pub fn begin_child(
         &mut self,
         around: Level,
         index: usize,
         child: &'d XmlElement<'a>,
         kind: Kind,
-    ) -> Result<Level, RngFault> {
-        let before = around.begun.count;
-        if let Some(refusal) = around
-            .open
-            .holder
-            .refusal(kind, before, around.begun.has_except)
-        {
+    ) -> Result<Level, RngFault>
+        ensures added { (row : XmlElement) (f e : Written)
+            → IsChildOf self.old row around child.now index kind f e
+            → OnOk result (AddsInScope self.old self.new (before_child (layout f f.kind).class
+            (layout f f.kind).separator around.begun.count ++ begins e e.kind)) }
+        ensures meant { (row : XmlElement) (f e : Written)
+            → IsChildOf self.old row around child.now index kind f e
+            → IfOk result (λ level. IsMeant self.new child.now level.«open» e) }
+        ensures layout { (row : XmlElement) (f e : Written)
+            → IsChildOf self.old row around child.now index kind f e
+            → IfOk result (λ level. layout_meant level.layout ≡ layout e e.kind) }
+        ensures behind { IfOk result (λ level. sign_terms level.behind
+            ≡ behind_child (layout_meant around.layout).class around.begun.count) }
+        ensures of { IfOk result (IsLevelOf child.now index) }
+    {
+        let begun = around.begun;
+        let holder = around.open.holder;
+        if let Some(refusal) = holder.refusal(kind, begun.count, begun.has_except) {
             return Err(RngFault::new(child.at, refusal));
         }
-        self.put_sign(child.at, around.layout.before(before))?;
-        let place = around.open.place_inside(around.layout, before);
+        let separator = around.layout.before(begun.count);
+        self.put_sign(child.at, separator)?;
+        let place = around.open.place_inside(around.layout, begun.count);
         let level = self.begin(child, index, kind, around.open.context, place)?;
         Ok(Level {
-            behind: around.layout.behind(before),
+            behind: around.layout.behind(begun.count),
             ..level
         })
     }
 
     /// Begins an element of RELAX NG: writes it up to its children.
-    fn begin(
+    pub fn begin(
         &mut self,
         element: &'d XmlElement<'a>,
         index: usize,
         kind: Kind,
         around: Context,
         place: Place,
-    ) -> Result<Level, RngFault> {
+    ) -> Result<Level, RngFault>
+        ensures added { (e : Written) → Comes self.old element.now index kind around place e
+            → OnOk result (AddsInScope self.old self.new (begins e e.kind)) }
+        ensures meant { (e : Written) → Comes self.old element.now index kind around place e
+            → IfOk result (λ level. IsMeant self.new element.now level.«open» e) }
+        ensures layout { (e : Written) → Comes self.old element.now index kind around place e
+            → IfOk result (λ level. layout_meant level.layout ≡ layout e e.kind) }
+        ensures behind { IfOk result (λ level. level.behind ≡ Sign.Nothing) }
+        ensures of { IfOk result (IsLevelOf element.now index) }
+    {
         let open = self.opened(index, element, kind, around, place)?;
         let layout = self.write_front(element, open)?;
         Ok(Level {
@@ -320,95 +224,81 @@ impl<'d, 'a> Translator<'d, 'a> {
     }
 
     /// Ends an element, behind its children.
-    fn end(&mut self, level: Level) -> Result<(), RngFault> {
-        let at = level.open.at;
-        self.put_sign(at, level.layout.inner)?;
-        self.put_sign(at, level.layout.closing)?;
-        self.put_sign(at, level.layout.outer)?;
-        self.put_sign(at, level.behind)?;
+    pub fn end(&mut self, level: Level) -> Result<(), RngFault>
+        ensures added { OnOk result (AddsInScope self.old self.new
+            ((layout_meant level.layout).behind ++ sign_terms level.behind)) }
+        ensures scope { (row : XmlElement) (scope : Scope)
+            → slice_get self.old.document.now.elements.items level.«open».index ≡ Some row
+            → IsInScope self.old (declared_at self.old.document.now row ++ scope)
+            → OnOk result (IsInScope self.new scope) }
+    {
+        self.put_end(level)?;
         self.leave_scope(level.open.index);
         Ok(())
     }
 
+    /// Writes what comes behind the children of an element.
+    fn put_end(&mut self, level: Level) -> Result<(), RngFault>
+        ensures { OnOk result (Adds self.old self.new
+            ((layout_meant level.layout).behind ++ sign_terms level.behind)) }
+    {
+        let at = level.open.at;
+        self.put_sign(at, level.layout.inner)?;
+        self.put_sign(at, level.layout.closing)?;
+        self.put_sign(at, level.layout.outer)?;
+        self.put_sign(at, level.behind)
+    }
+
     /// The declarations of an element mean nothing from here on.
-    fn leave_scope(&mut self, index: usize) {
+    fn leave_scope(&mut self, index: usize)
+        ensures same { self.new ≡ record self.old { scopes = self.new.scopes } }
+        ensures left { (row : XmlElement) (scope : Scope)
+            → slice_get self.old.document.now.elements.items index ≡ Some row
+            → IsInScope self.old (declared_at self.old.document.now row ++ scope)
+            → IsInScope self.new scope }
+    {
+        if let Some(element) = element_at(self.document, index) {
+            self.leave(element);
+        }
+    }
+
+    /// The declarations of this element mean nothing from here on.
+    fn leave(&mut self, element: &XmlElement<'a>)
+        ensures same { self.new ≡ record self.old { scopes = self.new.scopes } }
+        ensures left { (scope : Scope)
+            → IsInScope self.old (declared_at self.old.document.now element.now ++ scope)
+            → IsInScope self.new scope }
+    {
         let document = self.document;
-        if let Some(element) = document.elements.get(index) {
-            self.scopes.leave(document.declarations_of(element));
-        }
-    }
-
-    /// Passes the texts of an element that come before another one. Refused where one can't be.
-    fn pass_texts(&mut self, open: Open, next: usize) -> Result<(), RngFault> {
-        let document = self.document;
-        'texts: while let Some(text) = document.texts.get(self.text) {
-            if text.parent != open.index || text.at >= self.end_before(next) {
-                break;
-            }
-            self.check_text(open.holder.kind, text.at, text.content.as_str())?;
-            self.text += 1;
-        }
-        Ok(())
-    }
-
-    /// The place of an element; without one, a place behind all.
-    fn end_before(&self, index: usize) -> usize {
-        match self.document.elements.get(index) {
-            Some(element) => element.at,
-            None => usize::MAX,
-        }
-    }
-
-    /// Passes the texts in an element of another vocabulary.
-    fn pass_foreign(&mut self, index: usize, end: usize) {
-        let document = self.document;
-        'texts: while let Some(text) = document.texts.get(self.text) {
-            if text.parent < index || text.parent >= end {
-                break;
-            }
-            self.text += 1;
-        }
-    }
-
-    /// Whether a text can be in an element of RELAX NG (4.2).
-    fn check_text(&self, kind: Kind, at: usize, content: &str) -> Result<(), RngFault> {
-        if kind.holds_text() || content.chars().all(crate::document_parts::is_white_space) {
-            return Ok(());
-        }
-        let at = self.after_white_space(at);
-        Err(RngFault::new(at, RngFaultKind::Text(kind)))
-    }
-
-    /// The first byte of the document's text from this one on that is no white space.
-    fn after_white_space(&self, at: usize) -> usize {
-        match self.source.get(at..) {
-            Some(rest) => {
-                let behind = rest.trim_start_matches(crate::document_parts::is_white_space);
-                self.source.len().saturating_sub(behind.len())
-            }
-            None => at,
-        }
+        self.scopes.leave(document.declarations_of(element));
     }
 
     /// The text that an element begins with, and its place; where it has none, the given place.
     pub fn content(&self, index: usize, at: usize) -> (usize, &'d str)
-        ensures { result.1.now ≡ content_at self.now.document.now self.now.text index }
+        ensures at { result.1.now ≡ content_at self.now.document.now self.now.text index }
+        ensures text { (k : Nodes) (after : ℕ) → AreNested self.now.document.now
+            → IsContent self.now.document.now index self.now.text k after
+            → result.1.now ≡ text_of k }
     {
-        let document = self.document;
-        match document.texts.get(self.text) {
-            Some(text) if text.parent == index => (text.at, text.content.as_str()),
-            _ => (at, ""),
-        }
+        content_of(self.document, self.text, index, at)
     }
 
     /// The declarations of an element mean something from here on.
-    fn enter_scope(&mut self, element: &XmlElement<'a>) -> Result<(), RngFault> {
+    fn enter_scope(&mut self, element: &XmlElement<'a>) -> Result<(), RngFault>
+        ensures same { OnOk result (self.new ≡ record self.old { scopes = self.new.scopes }) }
+        ensures scope { (scope : Scope) → IsInScope self.old scope
+            → AreDistinct (declared_at self.old.document.now element.now) → OnOk result
+            (IsInScope self.new (declared_at self.old.document.now element.now ++ scope)) }
+    {
         let document = self.document;
-        let rows = element.declarations;
-        for index in rows.from..rows.to {
-            if let Some(declaration) = document.declarations.get(index) {
-                self.scopes.enter(declaration.prefix, index)?;
-            }
+        let from = element.declarations.from;
+        'declarations: for (before, declaration) in document
+            .declarations_of(element)
+            .iter()
+            .enumerate()
+        {
+            self.scopes
+                .enter(declaration.prefix, from.saturating_add(before))?;
         }
         Ok(())
     }
@@ -421,7 +311,12 @@ impl<'d, 'a> Translator<'d, 'a> {
         kind: Kind,
         around: Context,
         place: Place,
-    ) -> Result<Open, RngFault> {
+    ) -> Result<Open, RngFault>
+        ensures same { OnOk result (self.new ≡ record self.old { scopes = self.new.scopes }) }
+        ensures meant { (e : Written) → Comes self.old element.now index kind around place e
+            → IfOk result (λ o. IsMeant self.new element.now o e) }
+        ensures of { IfOk result (IsOpenOf element.now index) }
+    {
         let holder = Holder {
             kind,
             role: place.role,
@@ -447,7 +342,12 @@ impl<'d, 'a> Translator<'d, 'a> {
     }
 
     /// The namespace that names without a prefix are in, where they are written in what is open.
-    fn bare_in(&self, kind: Kind, around: Uri) -> Uri {
+    fn bare_in(&self, kind: Kind, around: Uri) -> Uri
+        ensures { (n m : Namespace) → KnowsUris self.now
+            → uri_meant self.now.uris self.now.default ≡ Some n
+            → uri_meant self.now.uris around ≡ Some m
+            → uri_meant self.now.uris result ≡ Some (bare_in n m kind) }
+    {
         match kind {
             Kind::Attribute => Uri::EMPTY,
             Kind::Element => self.default,
@@ -479,17 +379,34 @@ impl<'d, 'a> Translator<'d, 'a> {
     }
 
     /// The nearest `ns` of an element, where this one is inherited (4.9).
-    fn namespace_at(&self, element: &XmlElement<'a>, inherited: Uri) -> Uri {
-        match attribute(self.document, element, "ns") {
-            Some(ns) => self.uris.uri(ns.value.as_str()),
-            None => inherited,
-        }
+    pub fn namespace_at(&self, element: &XmlElement<'a>, inherited: Uri) -> Uri
+        ensures { (n : Namespace) → KnowsUris self.now
+            → uri_meant self.now.uris inherited ≡ Some n → uri_meant self.now.uris result
+            ≡ Some (nearest n (value_of (codes "ns")
+            (attributes_at self.now.document.now element.now))) }
+    {
+        self.given_uri(element, "ns", inherited)
     }
 
     /// The nearest `datatypeLibrary` of an element, where this one is inherited (4.3).
-    fn library_at(&self, element: &XmlElement<'a>, inherited: Uri) -> Uri {
-        match attribute(self.document, element, "datatypeLibrary") {
-            Some(library) => self.uris.uri(library.value.as_str()),
+    fn library_at(&self, element: &XmlElement<'a>, inherited: Uri) -> Uri
+        ensures { (n : Namespace) → KnowsUris self.now
+            → uri_meant self.now.uris inherited ≡ Some n → uri_meant self.now.uris result
+            ≡ Some (nearest n (value_of (codes "datatypeLibrary")
+            (attributes_at self.now.document.now element.now))) }
+    {
+        self.given_uri(element, "datatypeLibrary", inherited)
+    }
+
+    /// The URI that an attribute of this name gives, which is one that may; this one where there is none.
+    fn given_uri(&self, element: &XmlElement<'a>, local: &str, inherited: Uri) -> Uri
+        ensures { (n : Namespace) → KnowsUris self.now → gives_uri local.now ≡ true
+            → uri_meant self.now.uris inherited ≡ Some n → uri_meant self.now.uris result
+            ≡ Some (nearest n (value_of local.now
+            (attributes_at self.now.document.now element.now))) }
+    {
+        match attribute(self.document, element, local) {
+            Some(found) => self.uris.uri(found.value.as_str()),
             None => inherited,
         }
     }
@@ -497,7 +414,9 @@ impl<'d, 'a> Translator<'d, 'a> {
 
 impl Begun {
     /// With one more of this kind.
-    fn and(self, kind: Kind) -> Begun {
+    pub fn and(self, kind: Kind) -> Begun
+        ensures { self.count + 1 < 2 ^ 64 → result.count ≡ self.count + 1 }
+    {
         Begun {
             count: self.count.saturating_add(1),
             has_except: self.has_except || kind == Kind::Except,
@@ -514,7 +433,14 @@ impl Open {
     }
 
     /// Where a child after so many others is.
-    fn place_inside(self, layout: Layout, before: usize) -> Place {
+    fn place_inside(self, layout: Layout, before: usize) -> Place
+        ensures standing { result.standing ≡ standing_of (class_meant layout.class)
+            layout.standing before }
+        ensures first { result.is_first ≡ (before == 0) }
+        ensures last { result.is_last ≡ nat_le self.children.count
+            (before + 1 + (if self.children.has_except then 1 else 0)) }
+        ensures root { result.is_root ≡ false }
+    {
         let excepts = usize::from(self.children.has_except);
         let begun = before.saturating_add(1);
         Place {

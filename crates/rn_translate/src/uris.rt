@@ -1,6 +1,10 @@
 // Namespaces and datatype libraries of a document.
-ghost use Rattle.std.specs.Prelude.{◌≡◌, ◌==◌};
+ghost use Rattle.std.specs.Prelude.{◌≡◌, ◌==◌, ℕ, IfOk, OnOk, Some, slice_get, unwrap_or};
+ghost use Rattle.rn_xml.specs.DocumentTrees.{uri_at_index};
+ghost use Rattle.rn_translate.specs.inside.Terms.{uri as uri_namespace};
 ghost use Rattle.rn_translate.specs.inside.PrintedTerms.{uri_text};
+ghost use Rattle.rn_translate.specs.inside.UriTables.{AreIndexed, HasAdded, HasUri, HasUrisOf, IsTable, gives_uri};
+ghost use Rattle.rn_translate.specs.inside.Meanings.{uri_meant};
 
 use rn_xml::{XmlAttribute, XmlDocument};
 use std::alloc::{AllocError, Global};
@@ -49,7 +53,9 @@ pub(crate) struct Uris<'d> {
 
 impl<'d> Uris<'d> {
     /// The URIs that mean something by themselves.
-    fn new(alloc: Global) -> Result<Uris<'d>, AllocError> {
+    fn new(alloc: Global) -> Result<Uris<'d>, AllocError>
+        ensures { IfOk result (λ uris. IsTable uris) }
+    {
         let mut uris = Uris {
             texts: Vec::new(alloc),
             indices: BTreeMap::new(alloc),
@@ -62,7 +68,9 @@ impl<'d> Uris<'d> {
     }
 
     /// Adds a URI, if it isn't there yet.
-    fn add(&mut self, text: &'d str) -> Result<(), AllocError> {
+    fn add(&mut self, text: &'d str) -> Result<(), AllocError>
+        ensures { AreIndexed self.old → OnOk result (HasAdded self.old self.new text.entry) }
+    {
         if self.indices.get(text).is_some() {
             return Ok(());
         }
@@ -73,7 +81,10 @@ impl<'d> Uris<'d> {
     }
 
     /// All URIs that elements of a document can mean: its namespaces, and those that `ns` and `datatypeLibrary` give.
-    pub fn of(alloc: Global, document: &'d XmlDocument<'_>) -> Result<Uris<'d>, AllocError> {
+    pub fn of(alloc: Global, document: &'d XmlDocument<'_>) -> Result<Uris<'d>, AllocError>
+        ensures table { IfOk result (λ uris. IsTable uris) }
+        ensures has { IfOk result (λ uris. HasUrisOf uris document.now) }
+    {
         let mut uris = Uris::new(alloc)?;
         'namespaces: for uri in &document.uris {
             uris.add(uri.as_str())?;
@@ -86,6 +97,23 @@ impl<'d> Uris<'d> {
         Ok(uris)
     }
 
+    /// The URIs of a document's namespaces, each at its index. The document is that of which the URIs are.
+    pub fn namespaces(
+        &self,
+        alloc: Global,
+        document: &XmlDocument<'_>,
+    ) -> Result<Vec<Uri>, AllocError>
+        ensures { IsTable self.now → HasUrisOf self.now document.now → IfOk result (λ known.
+            (k : ℕ) → uri_meant self.now (unwrap_or (slice_get known.items k) Uri.EMPTY)
+            ≡ Some (uri_namespace (uri_at_index document.now k))) }
+    {
+        let mut namespaces = Vec::new(alloc);
+        'namespaces: for uri in &document.uris {
+            namespaces.push(self.uri(uri.as_str()))?;
+        }
+        Ok(namespaces)
+    }
+
     /// The text of a URI; none of the inherited one.
     pub fn text(&self, uri: Uri) -> &'d str
         ensures { result.now ≡ uri_text self.now uri }
@@ -94,7 +122,10 @@ impl<'d> Uris<'d> {
     }
 
     /// The URI with this text; the empty one where none has it.
-    pub fn uri(&self, text: &str) -> Uri {
+    pub fn uri(&self, text: &str) -> Uri
+        ensures { AreIndexed self.now → HasUri self.now text.now
+            → uri_meant self.now result ≡ Some (uri_namespace text.now) }
+    {
         match self.indices.get(text) {
             Some(index) => Uri { index: *index },
             None => Uri::EMPTY,
@@ -103,6 +134,8 @@ impl<'d> Uris<'d> {
 }
 
 /// Whether an attribute may give the URI of a namespace or a library.
-fn gives_uri(attribute: &XmlAttribute<'_>) -> bool {
-    matches!(attribute.name.local.as_bytes(), b"ns" | b"datatypeLibrary")
+fn gives_uri(attribute: &XmlAttribute<'_>) -> bool
+    ensures { result ≡ gives_uri attribute.now.name.local.now }
+{
+    attribute.name.local == "ns" || attribute.name.local == "datatypeLibrary"
 }

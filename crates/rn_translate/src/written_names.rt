@@ -1,9 +1,15 @@
 // Names in a schema, and how they are written in the compact text (RELAX NG 2001, 4.2 and 4.8 to 4.10).
-ghost use Rattle.std.specs.Prelude.{◌≡◌, ◌∷◌, ◌==◌, [], true, OnOk, Some, if◌then◌else◌};
+ghost use Rattle.std.specs.Prelude.{◌≡◌, ◌∷◌, ◌==◌, [], true, false, IfNone, OnOk, Some, bytes_eq, codes, option_map, slice_get, unwrap_or};
+ghost use Rattle.std.specs.Option.{option_map_or};
 ghost use Rattle.std.specs.Str.{chars};
 ghost use Rattle.rn_text.specs.Characters.{is_ncname};
-ghost use Rattle.rn_translate.specs.inside.Terms.{Namespace, datatype, identifier, local as local_term, prefixed};
+ghost use Rattle.rn_xml.specs.XmlTags.{Scope, uri_in};
+ghost use Rattle.rn_translate.specs.inside.Terms.{Namespace, datatype, identifier, local as local_term, uri as uri_namespace};
+ghost use Rattle.rn_translate.specs.inside.SchemaElements.{prefix_and_local, prefix_uri, qualified};
+ghost use Rattle.rn_translate.specs.inside.Layouts.{name_term};
+ghost use Rattle.rn_translate.specs.inside.UriTables.{IsTable};
 ghost use Rattle.rn_translate.specs.inside.Meanings.{Adds, uri_meant};
+ghost use Rattle.rn_translate.specs.inside.ElementsMeant.{IsInScope};
 
 use crate::content::may_have;
 use crate::document_parts::{is_rng, trimmed};
@@ -16,7 +22,11 @@ use rn_text::is_ncname;
 use rn_xml::{NO_NAMESPACE, XML_NAMESPACE, XmlAttribute, XmlElement};
 
 /// The part of a qualified name before its colon, if it has one, and the rest.
-fn split_name(name: &str) -> (Option<&str>, &str) {
+fn split_name(name: &str) -> (Option<&str>, &str)
+    ensures parts { option_map (λ prefix. (prefix.now, result.1.now)) result.0
+        ≡ prefix_and_local name.now }
+    ensures whole { IfNone result.0 (result.1.now ≡ name.now) }
+{
     match name.split_once(':') {
         Some((prefix, local)) => (Some(prefix), local),
         None => (None, name),
@@ -111,7 +121,11 @@ impl<'d, 'a> Translator<'d, 'a> {
     }
 
     /// The namespace of a name; without a prefix it is the given one.
-    fn name_namespace(&self, prefix: Option<&str>, unprefixed: Uri) -> Uri {
+    fn name_namespace(&self, prefix: Option<&str>, unprefixed: Uri) -> Uri
+        ensures { (scope : Scope) (n : Namespace) → IsInScope self.now scope
+            → uri_meant self.now.uris unprefixed ≡ Some n → uri_meant self.now.uris result
+            ≡ Some (option_map_or (λ x. uri_namespace (prefix_uri scope x.now)) prefix.entry n) }
+    {
         match prefix {
             None => unprefixed,
             Some("xml") => Uri::XML,
@@ -120,17 +134,34 @@ impl<'d, 'a> Translator<'d, 'a> {
     }
 
     /// The namespace that a prefix other than `xml` is bound to here; none where it isn't bound.
-    fn bound_namespace(&self, prefix: &str) -> Uri {
-        let Some(index) = self.scopes.find(prefix) else {
-            return Uri::EMPTY;
-        };
-        let Some(declaration) = self.document.declarations.get(index) else {
-            return Uri::EMPTY;
-        };
-        self.document_uris
-            .get(declaration.uri)
-            .copied()
-            .unwrap_or(Uri::EMPTY)
+    fn bound_namespace(&self, prefix: &str) -> Uri
+        ensures { (scope : Scope) → IsInScope self.now scope
+            → bytes_eq prefix.now (codes "xml") ≡ false → uri_meant self.now.uris result
+            ≡ Some (uri_namespace (unwrap_or (uri_in scope prefix.now) [])) }
+    {
+        match self.scopes.find(prefix) {
+            Some(index) => self.declared_namespace(index),
+            None => Uri::EMPTY,
+        }
+    }
+
+    /// The namespace of the declaration of this index; none where there is no declaration.
+    fn declared_namespace(&self, index: usize) -> Uri
+        ensures { result ≡ option_map_or
+            (λ it. unwrap_or (slice_get self.now.document_uris.items it.uri) Uri.EMPTY)
+            (slice_get self.now.document.now.declarations.items index) Uri.EMPTY }
+    {
+        match self.document.declarations.get(index) {
+            Some(declaration) => self.document_uri(declaration.uri),
+            None => Uri::EMPTY,
+        }
+    }
+
+    /// The URI of the document's namespace of this index; the empty one where there is none.
+    fn document_uri(&self, index: usize) -> Uri
+        ensures { result ≡ unwrap_or (slice_get self.now.document_uris.items index) Uri.EMPTY }
+    {
+        self.document_uris.get(index).copied().unwrap_or(Uri::EMPTY)
     }
 
     /// The namespace that a prefix means here, by its index in the document, if it is declared.
@@ -147,7 +178,12 @@ impl<'d, 'a> Translator<'d, 'a> {
         text: &'d str,
         unprefixed: Uri,
         bare: Uri,
-    ) -> Result<(), RngFault> {
+    ) -> Result<(), RngFault>
+        ensures { (scope : Scope) (n m : Namespace) → IsInScope self.old scope
+            → uri_meant self.old.uris unprefixed ≡ Some n → uri_meant self.old.uris bare ≡ Some m
+            → OnOk result (Adds self.old self.new
+            (name_term m (qualified scope n text.now) ∷ [])) }
+    {
         let (prefix, local) = split_name(trimmed(text));
         let namespace = self.name_namespace(prefix, unprefixed);
         self.put_name_in(at, namespace, local, bare)
@@ -161,9 +197,9 @@ impl<'d, 'a> Translator<'d, 'a> {
         local: &'d str,
         bare: Uri,
     ) -> Result<(), RngFault>
-        ensures { (n : Namespace) → uri_meant self.old.uris namespace ≡ Some n → OnOk result
-            (Adds self.old self.new (if namespace.index == bare.index then local_term local.now ∷ []
-            else prefixed n local.now ∷ [])) }
+        ensures { (n m : Namespace) → IsTable self.old.uris
+            → uri_meant self.old.uris namespace ≡ Some n → uri_meant self.old.uris bare ≡ Some m
+            → OnOk result (Adds self.old self.new (name_term m (n, local.now) ∷ [])) }
     {
         if namespace.is(bare) {
             return self.put_local_name(at, local);

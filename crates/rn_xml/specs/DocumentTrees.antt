@@ -46,7 +46,7 @@ pub data AreChildren (d : XmlDocument) : (parent e t : ℕ) → Nodes → (behin
 
 -- the tables hold this root, and nothing else
 pub data HoldsRoot (d : XmlDocument) : Node → Type 0 where
-  root : {row : XmlElement} {inside : Nodes} → slice_get d.elements.items 0 ≡ Some row → row.parent ≡ None
+  root : {row : XmlElement} {inside : Nodes} → slice_get d.elements.items 0 ≡ Some row → row.parent ≡ None → row.end ≡ length d.elements.items
       → AreChildren d 0 1 0 inside (length d.elements.items) (length d.texts.items)
       → HoldsRoot d (element (name_of d row.name) (map (binding_of d) (rows_of row.declarations d.declarations.items))
       (map (attribute_of d) (rows_of row.attributes d.attributes.items)) inside)

@@ -117,9 +117,19 @@ opening count = if nat_le 1 count then open_brace else any_text
 abbrev pub closing : ℕ → List Term
 closing count = if_so (nat_le 1 count) close_brace
 
+-- what has a name: it gives it by the attribute `name`, or its first child is a name class (3)
+abbrev pub has_name : Kind → Bool
+has_name k.Element = true
+has_name k.Attribute = true
+has_name _ = false
+
+-- the name that the attribute gives, and what opens the content behind it
+abbrev pub given_name : Written → Option Text → List Term
+given_name e (Some name) = name_terms e (unprefixed_in e e.kind) name ++ opening e.count
+given_name e None = []
+
 abbrev pub begins_named : Written → Keyword → Option Text → List Term
-begins_named e word (Some name) = keyword word ∷ (name_terms e (unprefixed_in e e.kind) name ++ opening e.count)
-begins_named e word None = keyword word ∷ []
+begins_named e word name = keyword word ∷ given_name e name
 
 -- without the attribute `name` the first child is a name class, and what opens the others is behind that
 abbrev pub named : Written → Option Text → Layout
@@ -133,16 +143,22 @@ abbrev pub datatype_terms : Written → Option Text → List Term
 datatype_terms e (Some name) = datatype e.context.library (trimmed name) ∷ []
 datatype_terms e None = []
 
+-- a parameter; the first one opens the braces round all of them, and the last one closes them
+abbrev pub begins_param : Written → List Term
+begins_param e =
+    if_so e.place.is_first open_brace ++ local (name_in (codes "name") e.attributes) ∷ symbol (codes "=") ∷ literal e.text ∷ if_so e.place.is_last close_brace
+
 -- what has an except is in parentheses, unless it is alone
 abbrev pub is_closed : Written → Bool
 is_closed e = e.has_except && not (is_alone e.place.standing)
 
 -- the namespace that a file inherits is told if it isn't the default one (4.6 and 4.7)
-abbrev pub inherit_terms : Written → List Term
-inherit_terms e = if_so (not (is_same e.context.namespace e.default)) (keyword w.Inherit ∷ symbol (codes "=") ∷ prefix e.context.namespace ∷ [])
+abbrev pub inherit_terms : (default namespace : Namespace) → List Term
+inherit_terms default namespace = if_so (not (is_same namespace default)) (keyword w.Inherit ∷ symbol (codes "=") ∷ prefix namespace ∷ [])
 
 abbrev pub link_terms : Written → Keyword → List Term
-link_terms e word = keyword word ∷ literal (unwrap_or (value_of (codes "href") e.attributes) []) ∷ inherit_terms e
+link_terms e word =
+    keyword word ∷ literal (unwrap_or (value_of (codes "href") e.attributes) []) ∷ inherit_terms e.default e.context.namespace
 
 -- how a definition is combined with others of its name (4.17)
 abbrev pub method_term : Option Text → List Term
@@ -155,6 +171,17 @@ defined None = keyword w.Start ∷ []
 
 abbrev pub begins_definition : Written → List Term
 begins_definition e = defined (value_of (codes "name") e.attributes) ++ method_term (value_of (codes "combine") e.attributes)
+
+-- what holds items of a grammar, what is one, and what stands for a file or for nothing
+abbrev pub is_of_grammar : Kind → Bool
+is_of_grammar k.Grammar = true
+is_of_grammar k.Start = true
+is_of_grammar k.Define = true
+is_of_grammar k.Div = true
+is_of_grammar k.Include = true
+is_of_grammar k.ExternalRef = true
+is_of_grammar k.Foreign = true
+is_of_grammar _ = false
 
 -- ---- the table of elements
 
@@ -177,8 +204,7 @@ begins e k.Text = keyword w.Text ∷ []
 begins e k.NotAllowed = keyword w.NotAllowed ∷ []
 begins e k.Value = datatype_terms e (value_of (codes "type") e.attributes) ++ literal e.text ∷ []
 begins e k.Data = if_so (is_closed e) open_parenthesis ++ datatype e.context.library (name_in (codes "type") e.attributes) ∷ []
-begins e k.Param =
-    if_so e.place.is_first open_brace ++ local (name_in (codes "name") e.attributes) ∷ symbol (codes "=") ∷ literal e.text ∷ if_so e.place.is_last close_brace
+begins e k.Param = begins_param e
 begins e k.Except = symbol (codes "-") ∷ begins_operands s.Tight o.Bar e.count
 begins e k.Name = name_terms e e.context.namespace e.text
 begins e k.AnyName = if_so (is_closed e) open_parenthesis ++ symbol (codes "*") ∷ []

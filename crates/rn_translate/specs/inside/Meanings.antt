@@ -66,6 +66,11 @@ pub record Adds (old new : Translator) (ts : List Term) : Type 0 where
   pub same : new ≡ record old { terms = new.terms }
   pub terms : terms_meant new.uris new.terms.items ≡ terms_meant old.uris old.terms.items ++ known ts
 
+-- the same, and the declarations that the prefixes mean may change
+pub record AddsInScope (old new : Translator) (ts : List Term) : Type 0 where
+  pub same : new ≡ record old { terms = new.terms; scopes = new.scopes }
+  pub terms : terms_meant new.uris new.terms.items ≡ terms_meant old.uris old.terms.items ++ known ts
+
 -- what comes behind the first child, if that is a name class
 abbrev pub class_meant : Sign → Option (List Term)
 class_meant g.Nothing = None

@@ -62,10 +62,21 @@ kind_in (kind ∷ others) local = if bytes_eq (kind_name kind) local then Some k
 abbrev pub kind_of : Name → Option Kind
 kind_of n = if bytes_eq n.uri rng_uri then kind_in kinds n.local else Some k.Foreign
 
+-- whether the content of the element is a text (3)
+abbrev pub holds_text : Kind → Bool
+holds_text k.Name = true
+holds_text k.Value = true
+holds_text k.Param = true
+holds_text _ = false
+
 -- an element of another vocabulary, and characters, are no part of the schema (4.1 and 4.2)
 abbrev pub is_part : Node → Bool
 is_part (element n bound attributes inside) = bytes_eq n.uri rng_uri
 is_part (characters text) = false
+
+abbrev pub is_foreign : Option Kind → Bool
+is_foreign (Some k.Foreign) = true
+is_foreign _ = false
 
 abbrev pub is_except_kind : Option Kind → Bool
 is_except_kind (Some k.Except) = true

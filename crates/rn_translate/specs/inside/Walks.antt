@@ -1,9 +1,9 @@
 -- The walk over the tables of a document, and the tree that they hold.
-use Rattle.std.specs.Prelude.{◌≡◌, ◌==◌, ℕ, ◌+◌, ◌<◌, [], Some, if◌then◌else◌, map, slice_get, string_bytes}
+use Rattle.std.specs.Prelude.{◌≡◌, ◌≢◌, ◌==◌, ℕ, ◌+◌, ◌<◌, ◌≤◌, [], Some, if◌then◌else◌, map, slice_get, string_bytes}
 use Rattle.std.specs.Option.{option_map_or}
 use Rattle.rn_xml.specs.Infoset.{Node, element, characters, Nodes, more_nodes}
 use Rattle.rn_xml.specs.TableRows.{rows_of}
-use Rattle.rn_xml.specs.DocumentTrees.{AreChildren, ComesBeforeText, name_of, binding_of, attribute_of}
+use Rattle.rn_xml.specs.DocumentTrees.{AreChildren, ComesBeforeElement, ComesBeforeText, name_of, binding_of, attribute_of}
 use Rattle.rn_xml.specs.declared.document.XmlElement.{XmlElement}
 use Rattle.rn_xml.specs.declared.document.XmlText.{XmlText}
 use Rattle.rn_xml.specs.declared.document.XmlDocument.{XmlDocument}
@@ -40,3 +40,22 @@ pub record NextChild (d : XmlDocument) (parent e t : ℕ) (k : Nodes) (behind af
 -- the content of the text of this index, if it is in the element of that index
 abbrev pub content_at : XmlDocument → ℕ → ℕ → Text
 content_at d t e = option_map_or (λ (row : XmlText). if row.parent == e then string_bytes row.content else []) (slice_get d.texts.items t) []
+
+-- the children of the element of this index, which are no elements: from this text on, up to one that isn't in it
+pub record IsContent (d : XmlDocument) (e t : ℕ) (k : Nodes) (after : ℕ) : Type 0 where
+  pub children : AreChildren d e (e + 1) t k (e + 1) after
+  pub ends : (row : XmlText) → slice_get d.texts.items after ≡ Some row → row.parent ≢ e
+
+-- the text of this index is in none of the elements from the first up to the second
+abbrev pub IsOutside : XmlDocument → (from behind t : ℕ) → Type 0
+IsOutside d from behind t = (row : XmlText) → slice_get d.texts.items t ≡ Some row → from ≤ row.parent → behind ≤ row.parent
+
+-- no text of the element `parent` from this one on comes before the element `e` any more
+abbrev pub AreTextsPassed : XmlDocument → (parent e t : ℕ) → Type 0
+AreTextsPassed d parent e t = (row : XmlText) → slice_get d.texts.items t ≡ Some row → row.parent ≡ parent → ¬ ComesBeforeElement d row.at e
+
+-- what is left of the children behind characters at their front
+pub record TextsSkipped (d : XmlDocument) (parent e t : ℕ) (k : Nodes) (behind after : ℕ) : Type 0 where
+  pub rest : Nodes
+  pub children : AreChildren d parent e t rest behind after
+  pub skips : Skips k rest

@@ -103,7 +103,7 @@ close_holds d new place e around ended tables placed holds =
           subst (λ t. AreChildren new 0 1 t e.children (length d.elements.items) (length d.texts.items)) outer.1
           (subst (λ i. AreChildren new i (i + 1) e.texts e.children (length d.elements.items) (length d.texts.items)) outer.0 inside) in
           subst (HoldsRoot new) is
-          (HoldsRoot.root root_there (parent ∙ same)
+          (HoldsRoot.root root_there (parent ∙ same) (sym count)
           (subst (λ n. AreChildren new 0 1 0 e.children n (length new.texts.items)) (sym count)
           (subst (λ t. AreChildren new 0 1 0 e.children (length d.elements.items) t) (sym count_texts) at_root)))
       | g ∷ gs ↦ λ same outer.

@@ -1,5 +1,5 @@
 -- A sign, and a URI behind it.
-use Rattle.std.proofs.Common.{◌++◌, ◌+◌}
+use Rattle.std.proofs.Common.{◌++◌}
 use Rattle.std.specs.Prelude.{codes}
 use Rattle.std.proofs.lemmas.Result.{on_ok_weaker}
 use Rattle.rn_text.specs.declared.parts.Kind.TheVariants.{Symbol}

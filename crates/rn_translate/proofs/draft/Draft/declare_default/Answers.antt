@@ -1,5 +1,5 @@
 -- Two keywords, and a URI behind them.
-use Rattle.std.proofs.Common.{◌∙◌, ◌++◌, ◌+◌, sym, subst}
+use Rattle.std.proofs.Common.{◌∙◌, ◌++◌, sym, subst}
 use Rattle.std.proofs.lemmas.Bool.{cond-true, cond-false}
 use Rattle.std.proofs.lemmas.Result.{on_ok_weaker}
 use Rattle.rn_text.specs.declared.keywords.Keyword.TheVariants as w

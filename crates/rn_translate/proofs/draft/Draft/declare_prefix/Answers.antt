@@ -1,5 +1,5 @@
 -- A keyword, a prefix, and a URI behind them.
-use Rattle.std.proofs.Common.{◌∙◌, ◌++◌, ◌+◌, subst}
+use Rattle.std.proofs.Common.{◌∙◌, ◌++◌, subst}
 use Rattle.std.proofs.lemmas.Result.{on_ok_weaker}
 use Rattle.rn_text.specs.declared.parts.Kind.TheVariants.{Keyword}
 use Rattle.rn_text.specs.Keywords.{spelling}

@@ -1,5 +1,5 @@
 -- The default namespace, namespaces and libraries.
-use Rattle.std.proofs.Common.{◌++◌, ◌+◌}
+use Rattle.std.proofs.Common.{◌++◌}
 use Rattle.std.proofs.lemmas.Result.{on_ok_weaker}
 use Rattle.rn_text.specs.declared.keywords.Keyword.TheVariants as w
 use Rattle.rn_translate.specs.inside.PrintedTerms.{default_tokens, prefixes_tokens}

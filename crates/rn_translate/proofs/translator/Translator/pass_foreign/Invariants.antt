@@ -1,7 +1,17 @@
--- Fewer texts are left.
-use Rattle.std.proofs.Common.{◌-◌}
+-- The texts so far are in the element.
+use Rattle.std.proofs.Common.{◌≡◌, ℕ, ◌+◌, ◌-◌, ◌≤◌}
 use Rattle.std.specs.Prelude.{vec_len}
+use Rattle.rn_xml.specs.Infoset.{Nodes}
+use Rattle.rn_xml.specs.DocumentTrees.{AreChildren}
+use Rattle.rn_translate.specs.inside.Walks.{IsOutside}
 use Rattle.rn_translate.proofs.translator.Translator.pass_foreign.Given as goal
 
 abbrev pub decreases-texts : goal.decreases-texts
 decreases-texts l = vec_len l.document.texts - l.self.text
+
+abbrev pub invariant-texts : goal.invariant-texts
+invariant-texts l = record {
+  same : l.self ≡ record l.initial.self { text = l.self.text };
+  passed : (k : Nodes) (after : ℕ) → AreChildren l.document l.index (l.index + 1) l.initial.self.text k l.end after → IsOutside l.document l.index l.end after
+      → (l.initial.self.text ≤ l.self.text) × (l.self.text ≤ after);
+}
