@@ -29,3 +29,4 @@ pub mod ChildSteps
 pub mod PrintedMeanings
 pub mod LeftScopes
 pub mod RootSteps
+pub mod ReadTables

@@ -24,6 +24,9 @@ impl<'d, 'a> Translator<'d, 'a> {
         ensures meant { (root : Node) → IsAtStart self.old → AreSound self.old.document.now
             → HoldsRoot self.old.document.now root → OnOk result
             (terms_meant self.new.uris self.new.terms.items ≡ known (schema_terms root)) }
+        ensures uris { (root : Node) → IsAtStart self.old → AreSound self.old.document.now
+            → HoldsRoot self.old.document.now root
+            → OnOk result (self.new.uris ≡ self.old.uris) }
         ensures default { (root : Node) → IsAtStart self.old → AreSound self.old.document.now
             → HoldsRoot self.old.document.now root → OnOk result
             (uri_meant self.new.uris self.new.default ≡ Some (default_of root)) }
