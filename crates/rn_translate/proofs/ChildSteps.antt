@@ -228,29 +228,29 @@ child_begun s t u outer l m level index whole child kind w passed within there k
     let old_is = one_more s t i.row l m f o.begun o.behind with count i.level in
     let old_index : m.«open».index ≡ l.«open».index = ap (λ (x : Level). x.«open».index) with in
     let outer_open : AreOpen s (outer ++ m ∷ []) child.«end» n.mid (old ∷ i.around) = AreOpen.more refl old_is
-        (subst (λ x. AreChildren d x child.«end» n.mid n.rest i.row.«end» i.after) (sym old_index) rest)
-        (subst (λ x. IsOutside d x i.row.«end» i.after) (sym old_index) i.outside)
-        (omega (arith, old_index, below)) (omega (arith, count, i.begun, nested)) i.scope i.outer_open in
+    (subst (λ x. AreChildren d x child.«end» n.mid n.rest i.row.«end» i.after) (sym old_index) rest)
+    (subst (λ x. IsOutside d x i.row.«end» i.after) (sym old_index) i.outside)
+    (omega (arith, old_index, below)) (omega (arith, count, i.begun, nested)) i.scope i.outer_open in
     let inner_index : level.«open».index ≡ index = of.opened.index_is in
     let inner_open : AreOpen s ((outer ++ m ∷ []) ++ level ∷ []) (index + 1) u.text (new ∷ old ∷ i.around) = AreOpen.more refl level_is
-        (subst (λ x. AreChildren d x (index + 1) u.text n.inside child.«end» n.mid) (sym inner_index) (subst (λ x. AreChildren d index (index + 1) x n.inside child.«end» n.mid) (sym text) inner))
-        (subst (λ x. IsOutside d x child.«end» n.mid) (sym inner_index) outside)
-        (omega (arith, inner_index)) (omega (arith, of.begun)) refl outer_open in
+    (subst (λ x. AreChildren d x (index + 1) u.text n.inside child.«end» n.mid) (sym inner_index) (subst (λ x. AreChildren d index (index + 1) x n.inside child.«end» n.mid) (sym text) inner))
+    (subst (λ x. IsOutside d x child.«end» n.mid) (sym inner_index) outside)
+    (omega (arith, inner_index)) (omega (arith, of.begun)) refl outer_open in
     let is_rng_child : is_part (node_at d child n.inside) ≡ true = is_rng (bytes_eq (name_of d child.name).uri rng_uri) (ap is_foreign kind_is ∙ part) (foreign_name (name_of d child.name)) in
     let first : children f y o.begun o.left ≡ before_child y.class y.separator o.begun ++ ((begins e kind ++ (children e (layout e kind) 0 n.inside ++ (layout e kind).behind))
-        ++ (behind_child y.class o.begun ++ children f y (o.begun + 1) n.rest)) =
-        ap (children f y o.begun) n.is ∙ ap (λ (r : XmlElement). children f y o.begun (more_nodes (node_at d r n.inside) n.rest)) same
-        ∙ part_first f y o.begun (node_at d child n.inside) n.rest is_rng_child
-        ∙ ap (λ ts. before_child y.class y.separator o.begun ++ (ts ++ (behind_child y.class o.begun ++ children f y (o.begun + 1) n.rest)))
-        (terms_of f.default f.context (place_of f y o.begun) (name_of d child.name) (declared_at d child) (attributes_at d child) n.inside kind kind_is) in
+    ++ (behind_child y.class o.begun ++ children f y (o.begun + 1) n.rest)) =
+    ap (children f y o.begun) n.is ∙ ap (λ (r : XmlElement). children f y o.begun (more_nodes (node_at d r n.inside) n.rest)) same
+    ∙ part_first f y o.begun (node_at d child n.inside) n.rest is_rng_child
+    ∙ ap (λ ts. before_child y.class y.separator o.begun ++ (ts ++ (behind_child y.class o.begun ++ children f y (o.begun + 1) n.rest)))
+    (terms_of f.default f.context (place_of f y o.begun) (name_of d child.name) (declared_at d child) (attributes_at d child) n.inside kind kind_is) in
     let behind_all = y.behind ++ (o.behind ++ terms_left i.around) in
     let front : before_child (layout g g.kind).class (layout g g.kind).separator l.begun.count ≡ before_child y.class y.separator o.begun =
-        ap (λ z. before_child z.class z.separator l.begun.count) laid ∙ ap (before_child y.class y.separator) i.level.begun_is in
+    ap (λ z. before_child z.class z.separator l.begun.count) laid ∙ ap (before_child y.class y.separator) i.level.begun_is in
     let all : (before_child (layout g g.kind).class (layout g g.kind).separator l.begun.count ++ begins e kind) ++ terms_left (new ∷ old ∷ i.around) ≡ terms_left w.opened =
-        ap (λ ts. (ts ++ begins e kind) ++ terms_left (new ∷ old ∷ i.around)) front
-        ∙ regrouped (before_child y.class y.separator o.begun) (begins e kind) (children e (layout e kind) 0 n.inside) (layout e kind).behind (behind_child y.class o.begun)
-        (children f y (o.begun + 1) n.rest) behind_all
-        ∙ ap (λ ts. ts ++ behind_all) (sym first) ∙ ap terms_left (sym i.is) in
+    ap (λ ts. (ts ++ begins e kind) ++ terms_left (new ∷ old ∷ i.around)) front
+    ∙ regrouped (before_child y.class y.separator o.begun) (begins e kind) (children e (layout e kind) 0 n.inside) (layout e kind).behind (behind_child y.class o.begun)
+    (children f y (o.begun + 1) n.rest) behind_all
+    ∙ ap (λ ts. ts ++ behind_all) (sym first) ∙ ap terms_left (sym i.is) in
     record {
       same = now;
       sound = w.sound;

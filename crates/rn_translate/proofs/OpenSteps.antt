@@ -116,7 +116,7 @@ texts_walked s t u outer l next whole w new passes =
     let o = i.o in
     let f = o.written in
     let skipped = subst (λ d. AreChildren d l.«open».index next t.text o.left i.row.«end» i.after → IsOutside d l.«open».index i.row.«end» i.after
-        → TextsSkipped d l.«open».index next u.text o.left i.row.«end» i.after) (same_document s t w.same) (passes o.left i.row.«end» i.after i.below) i.left i.outside in
+    → TextsSkipped d l.«open».index next u.text o.left i.row.«end» i.after) (same_document s t w.same) (passes o.left i.row.«end» i.after i.below) i.left i.outside in
     record {
       same = text_changed s t u w.same new;
       sound = w.sound;
@@ -142,10 +142,10 @@ level_ended s t u outer l next whole w passed ends added leaves =
     let here : IsInScope t (declared_at s.document.now i.row ++ scope_in i.around) = subst (λ x. IsInScope t x) i.scope (subst (λ os. IsInScope t (scope_in os)) i.is w.scope) in
     let text : u.text ≡ t.text = ap (λ (x : Translator). x.text) added.same in
     let behind : (layout_meant l.layout).behind ++ sign_terms l.behind ≡ (layout f f.kind).behind ++ o.behind =
-        ap (λ (y : Layout). y.behind ++ sign_terms l.behind) i.level.layout_is ∙ ap (λ ts. (layout f f.kind).behind ++ ts) i.level.behind_is in
+    ap (λ (y : Layout). y.behind ++ sign_terms l.behind) i.level.layout_is ∙ ap (λ ts. (layout f f.kind).behind ++ ts) i.level.behind_is in
     let all : ((layout_meant l.layout).behind ++ sign_terms l.behind) ++ terms_left i.around ≡ terms_left w.opened =
-        ap (λ ts. ts ++ terms_left i.around) behind ∙ append_assoc (layout f f.kind).behind o.behind (terms_left i.around)
-        ∙ ap (λ k. children f (layout f f.kind) o.begun k ++ ((layout f f.kind).behind ++ (o.behind ++ terms_left i.around))) (sym end.0) ∙ ap terms_left (sym i.is) in
+    ap (λ ts. ts ++ terms_left i.around) behind ∙ append_assoc (layout f f.kind).behind o.behind (terms_left i.around)
+    ∙ ap (λ k. children f (layout f f.kind) o.begun k ++ ((layout f f.kind).behind ++ (o.behind ++ terms_left i.around))) (sym end.0) ∙ ap terms_left (sym i.is) in
     record {
       same = terms_changed s t u w.same added.same;
       sound = w.sound;
@@ -174,11 +174,11 @@ foreign_passed s t u outer l next behind whole row w passed within there kind is
     let nested : next < n.row.«end» = w.sound.nested next n.row n.there in
     let outside : IsOutside d next n.row.«end» n.mid = child_outside i.below nested n.outer i.outside in
     let text : u.text ≡ n.mid = subst (λ x. AreChildren x next (next + 1) t.text n.inside behind n.mid → IsOutside x next behind n.mid → u.text ≡ n.mid) (same_document s t w.same) (passes n.inside n.mid)
-        (subst (λ x. AreChildren d next (next + 1) t.text n.inside x n.mid) ends n.inner) (subst (λ x. IsOutside d next x n.mid) ends outside) in
+    (subst (λ x. AreChildren d next (next + 1) t.text n.inside x n.mid) ends n.inner) (subst (λ x. IsOutside d next x n.mid) ends outside) in
     let no_part : is_part (node_at d n.row n.inside) ≡ false = foreign_part (bytes_eq (name_of d n.row.name).uri rng_uri)
-        (ap (λ (r : XmlElement). is_foreign (kind_of (name_of d r.name))) same ∙ kind) (foreign_name (name_of d n.row.name)) in
+    (ap (λ (r : XmlElement). is_foreign (kind_of (name_of d r.name))) same ∙ kind) (foreign_name (name_of d n.row.name)) in
     let skipped : children f (layout f f.kind) o.begun n.rest ≡ children f (layout f f.kind) o.begun o.left =
-        sym (ap (children f (layout f f.kind) o.begun) n.is ∙ part_skipped f (layout f f.kind) o.begun (node_at d n.row n.inside) n.rest no_part) in
+    sym (ap (children f (layout f f.kind) o.begun) n.is ∙ part_skipped f (layout f f.kind) o.begun (node_at d n.row n.inside) n.rest no_part) in
     record {
       same = text_changed s t u w.same new;
       sound = w.sound;
@@ -194,6 +194,7 @@ foreign_passed s t u outer l next behind whole row w passed within there kind is
     foreign_part : (b : Bool) {x : Bool} → x ≡ true → x ≡ not b → b ≡ false
     foreign_part true so is = sym so ∙ is
     foreign_part false so is = refl
+
     part_skipped : (f : Written) (y : Layout) (m : ℕ) (x : Node) (xs : Nodes) → is_part x ≡ false → children f y m (more_nodes x xs) ≡ children f y m xs
     part_skipped f y m x xs none = cond-false (is_part x) _ (children f y m xs) none
 

@@ -99,8 +99,8 @@ root_begun a u default level root row kind around place start sound holds here k
           let level_is = level_meant s u row level e 0 [] now meant (lays e comes) of behind here in
           let index : level.«open».index ≡ 0 = of.opened.index_is in
           let all : begins e kind ++ terms_left (new ∷ []) ≡ schema_terms (element (name_of d row.name) (declared_at d row) (attributes_at d row) inside) =
-              ap (λ ts. begins e kind ++ (children e (layout e kind) 0 inside ++ ts)) (append-nil (layout e kind).behind)
-              ∙ sym (terms_of name (outside name) root_place (name_of d row.name) (declared_at d row) (attributes_at d row) inside kind kind_is) in
+          ap (λ ts. begins e kind ++ (children e (layout e kind) 0 inside ++ ts)) (append-nil (layout e kind).behind)
+          ∙ sym (terms_of name (outside name) root_place (name_of d row.name) (declared_at d row) (attributes_at d row) inside kind kind_is) in
           let whole = schema_terms (element (name_of d first.name) (declared_at d first) (attributes_at d first) inside) in
           record {
             same = now;
