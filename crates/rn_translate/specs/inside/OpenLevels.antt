@@ -1,5 +1,5 @@
 -- The elements that are open in the middle of a document, and the terms that are still to be added.
-use Rattle.std.specs.Prelude.{◌≡◌, ℕ, ◌+◌, ◌<◌, Some, List, [], ◌∷◌, ◌++◌, is_some, length, slice_get, codes}
+use Rattle.std.specs.Prelude.{◌≡◌, ℕ, ◌<◌, Some, List, [], ◌∷◌, ◌++◌, is_some, slice_get, codes}
 use Rattle.rn_xml.specs.Infoset.{Nodes}
 use Rattle.rn_xml.specs.XmlTags.{Scope, AreDistinct}
 use Rattle.rn_xml.specs.DocumentTrees.{AreChildren}

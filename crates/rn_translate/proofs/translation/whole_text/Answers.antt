@@ -1,8 +1,6 @@
 -- What is printed is the schema that the root is.
-use Rattle.std.proofs.Common.{◌≡◌, refl, sym, ap, ◌∙◌, subst, Some}
-use Rattle.rn_xml.specs.Infoset.{Node}
+use Rattle.std.proofs.Common.{◌≡◌, sym, ap, ◌∙◌, subst}
 use Rattle.rn_xml.specs.DocumentTrees.{HoldsRoot}
-use Rattle.rn_xml.specs.declared.document.XmlDocument.{XmlDocument}
 use Rattle.rn_translate.specs.inside.OpenLevels.{AreSound}
 use Rattle.rn_translate.specs.inside.Translation.{default_of, schema_terms}
 use Rattle.rn_translate.specs.inside.Meanings.{terms_meant, uri_meant}

@@ -1,8 +1,4 @@
 -- No element is in it.
-use Rattle.std.proofs.Common.{◌≡◌, ◌+◌, ◌<◌, ◌≤◌, arith, ⊎_elim}
-use Rattle.std.specs.Prelude.{nat_lt}
-use Rattle.std.proofs.lemmas.Bool.{cases_Bool}
-use Rattle.std.proofs.lemmas.Bool.Decides.{nat_tests}
 use Rattle.rn_translate.proofs.ChildCounts.{none_counted, none_left}
 use Rattle.rn_translate.proofs.translator.Translator.check_text_alone.Goals as goal
 

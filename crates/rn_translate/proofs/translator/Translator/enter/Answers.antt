@@ -1,10 +1,8 @@
 -- A foreign element is passed, or the child begins.
-use Rattle.std.proofs.Common.{◌≡◌, ℕ, true, false, ◌<◌, ◌≤◌, ◌+◌, refl, sym, ap, ◌∙◌, subst, Some, List, ◌++◌, ◌∷◌, []}
-use Rattle.std.specs.Prelude.{slice_get}
-use Rattle.rn_xml.specs.Infoset.{Nodes}
+use Rattle.std.proofs.Common.{◌≡◌, true, ◌+◌, sym, ap, ◌∙◌, subst, Some, ◌++◌, ◌∷◌, []}
 use Rattle.rn_xml.specs.DocumentTrees.{AreChildren, name_of}
 use Rattle.rn_xml.specs.declared.document.XmlDocument.{XmlDocument}
-use Rattle.rn_translate.specs.inside.SchemaElements.{holds_text, is_foreign, kind_of}
+use Rattle.rn_translate.specs.inside.SchemaElements.{is_foreign, kind_of}
 use Rattle.rn_translate.specs.inside.OpenLevels.{IsWalked}
 use Rattle.rn_translate.proofs.OpenSteps.{foreign_passed, same_document}
 use Rattle.rn_translate.proofs.ChildSteps.{child_begun}

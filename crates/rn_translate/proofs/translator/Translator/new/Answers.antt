@@ -1,5 +1,5 @@
 -- Nothing is walked yet.
-use Rattle.std.proofs.Common.{◌≡◌, [], refl, sym, subst}
+use Rattle.std.proofs.Common.{[], refl, sym, subst}
 use Rattle.rn_xml.specs.inside.OpenTables.{Denotes, binding_at}
 use Rattle.rn_translate.proofs.translator.Translator.new.Goals as goal
 

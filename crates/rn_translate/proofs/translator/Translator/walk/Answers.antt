@@ -1,14 +1,10 @@
 -- The root begins, and all that is left behind it is walked.
-use Rattle.std.proofs.Common.{◌≡◌, List, [], ◌∷◌, refl, sym, ap, ◌∙◌, Some, None}
-use Rattle.std.specs.Prelude.{slice_get}
+use Rattle.std.proofs.Common.{refl, sym, ap, ◌∙◌, Some}
 use Rattle.std.proofs.lemmas.Option.{none-some}
 use Rattle.std.proofs.lemmas.Result.{on_ok_weaker}
-use Rattle.rn_xml.specs.Infoset.{Node}
-use Rattle.rn_xml.specs.DocumentTrees.{HoldsRoot}
 use Rattle.rn_translate.specs.inside.Terms.{inherited}
 use Rattle.rn_translate.specs.inside.Translation.{schema_terms}
 use Rattle.rn_translate.specs.inside.Meanings.{sign_terms, uri_meant}
-use Rattle.rn_translate.specs.inside.OpenLevels.{AreSound, IsAtStart, IsWalked}
 use Rattle.rn_translate.specs.declared.translator.Translator.{Translator}
 use Rattle.rn_translate.proofs.RootSteps.{first_row, root_begun, root_default, with_default}
 use Rattle.rn_translate.proofs.translator.Translator.walk.Goals as goal
