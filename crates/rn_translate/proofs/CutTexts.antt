@@ -19,7 +19,7 @@ use Rattle.rn_text.proofs.TokenLists.OneFaultPlace.{list_or_place}
 use Rattle.rn_text.proofs.TokenLists.TokensOrFault.{tokens_or_place}
 use Rattle.rn_text.proofs.Words.AppendedLists.{all_append}
 use Rattle.rn_translate.specs.Spelled.{Spelled}
-use Rattle.rn_translate.specs.inside.DraftTokens.{spelled_of}
+use Rattle.rn_translate.specs.TokenTexts.{spelled_of}
 use Rattle.rn_translate.specs.Cuts.{Cut, HasParts, IsSpelledAs, IsTextOf, may_follow, spelled, spelled_at}
 
 -- ASCII characters are their bytes

@@ -9,6 +9,7 @@ use Rattle.rn_text.specs.Parts.{Piece, IsCut, ends_token, text_of}
 use Rattle.rn_text.specs.Texts.{Text}
 use Rattle.rn_text.specs.Tokens.{HasTokens, Lexeme, has_mark}
 use Rattle.rn_translate.specs.Spelled.{Spelled}
+use Rattle.rn_translate.specs.TokenTexts.{spelled_of}
 
 -- what may follow a text: behind a word, the end or a character before which each token ends; else anything
 abbrev pub may_follow : (is_open : Bool) → List ℕ → Bool
@@ -50,7 +51,7 @@ IsSpelledAs is_open text tokens = ∥ Cut is_open text tokens ∥₁
 pub record Lexed (text : Text) (tokens : List Spelled) : Type 0 where
   pub lexemes : List Lexeme
   pub has : HasTokens (chars text) lexemes
-  pub are : map (λ (t : Lexeme). record { kind = t.kind; text = t.text }) lexemes ≡ tokens
+  pub are : map spelled_of lexemes ≡ tokens
 
 -- the text is a text of these tokens, with white space and comments between them
 abbrev pub IsTextOf : Text → List Spelled → Type 0

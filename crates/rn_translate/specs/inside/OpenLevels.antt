@@ -5,10 +5,10 @@ use Rattle.rn_xml.specs.XmlTags.{Scope, AreDistinct}
 use Rattle.rn_xml.specs.DocumentTrees.{AreChildren}
 use Rattle.rn_xml.specs.declared.document.XmlElement.{XmlElement}
 use Rattle.rn_xml.specs.declared.document.XmlDocument.{XmlDocument}
-use Rattle.rn_translate.specs.inside.Terms.{Term}
-use Rattle.rn_translate.specs.inside.SchemaElements.{value_of}
-use Rattle.rn_translate.specs.inside.Layouts.{Written, layout}
-use Rattle.rn_translate.specs.inside.Translation.{children}
+use Rattle.rn_translate.specs.Terms.{Term}
+use Rattle.rn_translate.specs.SchemaElements.{value_of}
+use Rattle.rn_translate.specs.Layouts.{Written, layout}
+use Rattle.rn_translate.specs.Translation.{children}
 use Rattle.rn_translate.specs.inside.Meanings.{known, layout_meant, sign_terms, terms_meant, uri_meant}
 use Rattle.rn_translate.specs.inside.Walks.{AreNested, IsOutside}
 use Rattle.rn_translate.specs.inside.ElementsMeant.{IsInScope, attributes_at, declared_at}

@@ -2,7 +2,7 @@
 use Rattle.std.specs.Prelude.{string_bytes}
 use Rattle.std.specs.Str.{chars}
 use Rattle.rn_translate.proofs.CutTexts.{text_of_tokens}
-use Rattle.rn_translate.proofs.ReadTables.{sound_tables}
+use Rattle.rn_translate.proofs.Walking.ReadTables.{sound_tables}
 use Rattle.rn_translate.proofs.translation.compact_text.Goals as goal
 
 pub returns-in-Ok-clause-translation : goal.returns-in-Ok-clause-translation

@@ -2,7 +2,7 @@
 use Rattle.std.proofs.Common.{◌≡◌, sym, ap, ◌∙◌, subst}
 use Rattle.rn_xml.specs.DocumentTrees.{HoldsRoot}
 use Rattle.rn_translate.specs.inside.OpenLevels.{AreSound}
-use Rattle.rn_translate.specs.inside.Translation.{default_of, schema_terms}
+use Rattle.rn_translate.specs.Translation.{default_of, schema_terms}
 use Rattle.rn_translate.specs.inside.Meanings.{terms_meant, uri_meant}
 use Rattle.rn_translate.specs.inside.UriTables.{IsTable}
 use Rattle.rn_translate.specs.inside.NeededPrefixes.{AreBound, each_once, needed_libraries, needed_namespaces}

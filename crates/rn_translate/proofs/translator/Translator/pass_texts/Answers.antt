@@ -7,7 +7,7 @@ use Rattle.rn_xml.specs.declared.document.XmlElement.{XmlElement}
 use Rattle.rn_xml.specs.declared.document.XmlText.{XmlText}
 use Rattle.rn_xml.specs.declared.document.XmlDocument.{XmlDocument}
 use Rattle.rn_translate.specs.declared.translator.Translator.{Translator}
-use Rattle.rn_translate.proofs.TreeTexts.{before_element, none_skipped, not_before, one_skipped}
+use Rattle.rn_translate.proofs.Walking.TreeTexts.{before_element, none_skipped, not_before, one_skipped}
 use Rattle.rn_translate.proofs.translator.Translator.pass_texts.Goals as goal
 use Rattle.rn_translate.proofs.translator.Translator.pass_texts.Goals.{in-Some+then-text-open, then-text-open-via-then-text-open, then-text-open-via-else-text-open+then-not-comes_before, in_default}
 

@@ -5,7 +5,7 @@ use Rattle.std.proofs.lemmas.Bool.Decides.{nat_tests}
 use Rattle.rn_xml.specs.declared.document.XmlDocument.{XmlDocument}
 use Rattle.rn_translate.specs.inside.Walks.{AreTextsPassed}
 use Rattle.rn_translate.proofs.ChildCounts.{child_there}
-use Rattle.rn_translate.proofs.OpenSteps.{level_ended, none_left_of, same_document, texts_walked}
+use Rattle.rn_translate.proofs.Walking.OpenSteps.{level_ended, none_left_of, same_document, texts_walked}
 use Rattle.rn_translate.proofs.translator.Translator.step.Goals as goal
 
 pub returns-in_default-clause-walked : goal.returns-in_default-clause-walked

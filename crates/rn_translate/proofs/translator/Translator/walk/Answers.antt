@@ -2,11 +2,11 @@
 use Rattle.std.proofs.Common.{refl, sym, ap, ◌∙◌, Some}
 use Rattle.std.proofs.lemmas.Option.{none-some}
 use Rattle.std.proofs.lemmas.Result.{on_ok_weaker}
-use Rattle.rn_translate.specs.inside.Terms.{inherited}
-use Rattle.rn_translate.specs.inside.Translation.{schema_terms}
+use Rattle.rn_translate.specs.Terms.{inherited}
+use Rattle.rn_translate.specs.Translation.{schema_terms}
 use Rattle.rn_translate.specs.inside.Meanings.{sign_terms, uri_meant}
 use Rattle.rn_translate.specs.declared.translator.Translator.{Translator}
-use Rattle.rn_translate.proofs.RootSteps.{first_row, root_begun, root_default, with_default}
+use Rattle.rn_translate.proofs.Walking.RootSteps.{first_row, root_begun, root_default, with_default}
 use Rattle.rn_translate.proofs.translator.Translator.walk.Goals as goal
 
 pub returns-in_default-clause-meant : goal.returns-in_default-clause-meant

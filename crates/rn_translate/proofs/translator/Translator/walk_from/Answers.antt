@@ -2,7 +2,7 @@
 use Rattle.std.proofs.Common.{[], ◌∷◌, ◌++◌, sym, ap, ◌∙◌, subst}
 use Rattle.std.proofs.lemmas.List.{nil_from_length}
 use Rattle.rn_translate.specs.inside.OpenLevels.{IsWalked}
-use Rattle.rn_translate.proofs.OpenSteps.{whole_walked}
+use Rattle.rn_translate.proofs.Walking.OpenSteps.{whole_walked}
 use Rattle.rn_translate.proofs.translator.Translator.walk_from.Goals as goal
 
 pub levels-init : goal.levels-init

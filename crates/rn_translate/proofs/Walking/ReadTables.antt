@@ -12,7 +12,7 @@ use Rattle.rn_xml.specs.declared.document.XmlElement.{XmlElement}
 use Rattle.rn_xml.specs.declared.document.XmlDocument.{XmlDocument}
 use Rattle.rn_translate.specs.inside.ElementsMeant.{declared_at}
 use Rattle.rn_translate.specs.inside.OpenLevels.{AreSound}
-use Rattle.rn_translate.proofs.TreeTexts.{ends_behind}
+use Rattle.rn_translate.proofs.Walking.TreeTexts.{ends_behind}
 
 -- ---- in the tree
 

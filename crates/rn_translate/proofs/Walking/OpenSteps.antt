@@ -9,10 +9,10 @@ use Rattle.rn_xml.specs.XmlTags.{Scope}
 use Rattle.rn_xml.specs.DocumentTrees.{AreChildren, name_of}
 use Rattle.rn_xml.specs.declared.document.XmlElement.{XmlElement}
 use Rattle.rn_xml.specs.declared.document.XmlDocument.{XmlDocument}
-use Rattle.rn_translate.specs.inside.Terms.{Term}
-use Rattle.rn_translate.specs.inside.SchemaElements.{is_foreign, is_part, kind_of, rng_uri}
-use Rattle.rn_translate.specs.inside.Layouts.{Layout, Written, layout}
-use Rattle.rn_translate.specs.inside.Translation.{children}
+use Rattle.rn_translate.specs.Terms.{Term}
+use Rattle.rn_translate.specs.SchemaElements.{is_foreign, is_part, kind_of, rng_uri}
+use Rattle.rn_translate.specs.Layouts.{Layout, Written, layout}
+use Rattle.rn_translate.specs.Translation.{children}
 use Rattle.rn_translate.specs.inside.Meanings.{AddsInScope, known, layout_meant, sign_terms, terms_meant}
 use Rattle.rn_translate.specs.inside.Walks.{AreTextsPassed, IsOutside, TextsSkipped, node_at}
 use Rattle.rn_translate.specs.inside.ElementsMeant.{IsInScope, declared_at}
@@ -20,8 +20,8 @@ use Rattle.rn_translate.specs.inside.OpenLevels.{AreOpen, IsLevel, IsWalked, Ope
 use Rattle.rn_translate.specs.declared.translator.Level.{Level}
 use Rattle.rn_translate.specs.declared.translator.Translator.{Translator}
 use Rattle.rn_translate.proofs.ChildCounts.{foreign_name, none_counted, none_left}
-use Rattle.rn_translate.proofs.TreeSteps.{skips_children}
-use Rattle.rn_translate.proofs.TreeTexts.{child_next, child_outside, none_next}
+use Rattle.rn_translate.proofs.Walking.TreeSteps.{skips_children}
+use Rattle.rn_translate.proofs.Walking.TreeTexts.{child_next, child_outside, none_next}
 
 -- ---- the innermost level
 
