@@ -3,8 +3,8 @@ use Rattle.std.proofs.Common.{◌≡◌, Bool, List, [], ◌++◌, refl, sym, ap
 use Rattle.std.specs.Prelude.{Result, OnOk}
 use Rattle.std.proofs.lemmas.List.{map-append}
 use Rattle.std.proofs.lemmas.Result.{on_ok_weaker}
-use Rattle.rn_translate.specs.inside.Terms.{Term}
-use Rattle.rn_translate.specs.inside.Layouts.{if_so}
+use Rattle.rn_translate.specs.Terms.{Term}
+use Rattle.rn_translate.specs.Layouts.{if_so}
 use Rattle.rn_translate.specs.declared.translator.Translator.{Translator}
 use Rattle.rn_translate.specs.inside.ElementsMeant.{IsInScope}
 use Rattle.rn_translate.specs.inside.Meanings.{Adds, known, terms_meant}

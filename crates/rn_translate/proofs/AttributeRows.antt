@@ -12,7 +12,7 @@ use Rattle.rn_xml.specs.declared.document.Rows.{Rows}
 use Rattle.rn_xml.specs.declared.document.XmlAttribute.{XmlAttribute}
 use Rattle.rn_xml.specs.declared.document.XmlDocument.{XmlDocument}
 use Rattle.rn_xml.proofs.ScopeSteps.{same_bytes}
-use Rattle.rn_translate.specs.inside.SchemaElements.{value_of}
+use Rattle.rn_translate.specs.SchemaElements.{value_of}
 
 pub empty_bytes : (l : List ℕ) → (length l == 0) ≡ bytes_eq l []
 empty_bytes [] = refl

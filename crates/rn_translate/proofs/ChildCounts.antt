@@ -10,10 +10,10 @@ use Rattle.rn_xml.specs.Infoset.{Name, Nodes}
 use Rattle.rn_xml.specs.DocumentTrees.{AreChildren, name_of}
 use Rattle.rn_xml.specs.declared.document.XmlElement.{XmlElement}
 use Rattle.rn_xml.specs.declared.document.XmlDocument.{XmlDocument}
-use Rattle.rn_translate.specs.inside.SchemaElements.{count_of, has_except, is_except_kind, is_foreign, kind_in, kind_name, kind_of, kinds, rng_uri}
+use Rattle.rn_translate.specs.SchemaElements.{count_of, has_except, is_except_kind, is_foreign, kind_in, kind_name, kind_of, kinds, rng_uri}
 use Rattle.rn_translate.specs.inside.Walks.{AreNested}
 use Rattle.rn_translate.specs.declared.kinds.Kind.{Kind}
-use Rattle.rn_translate.proofs.TreeSteps.{next_child, no_end_before, skips_count, skips_except}
+use Rattle.rn_translate.proofs.Walking.TreeSteps.{next_child, no_end_before, skips_count, skips_except}
 
 -- ---- a child is a part of the schema, or is of another vocabulary
 

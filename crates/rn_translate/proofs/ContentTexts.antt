@@ -9,9 +9,9 @@ use Rattle.rn_xml.specs.Infoset.{Nodes}
 use Rattle.rn_xml.specs.DocumentTrees.{AreChildren}
 use Rattle.rn_xml.specs.declared.document.XmlText.{XmlText}
 use Rattle.rn_xml.specs.declared.document.XmlDocument.{XmlDocument}
-use Rattle.rn_translate.specs.inside.SchemaElements.{text_of}
+use Rattle.rn_translate.specs.SchemaElements.{text_of}
 use Rattle.rn_translate.specs.inside.Walks.{AreNested, IsContent, content_at}
-use Rattle.rn_translate.proofs.TreeSteps.{no_end_before}
+use Rattle.rn_translate.proofs.Walking.TreeSteps.{no_end_before}
 
 -- the text, if it is in the element of this index
 abbrev content_in : ℕ → Option XmlText → Text

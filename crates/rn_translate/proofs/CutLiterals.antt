@@ -13,7 +13,7 @@ use Rattle.rn_text.proofs.Quoting.DelimitedRuns.{delimited_segment, delimited_xm
 use Rattle.rn_text.proofs.Quoting.SegmentTexts.{Together, segments_join, segments_together}
 use Rattle.rn_text.proofs.Words.AppendedLists.{all_parts}
 use Rattle.rn_translate.specs.Cuts.{Cut, IsSpelledAs}
-use Rattle.rn_translate.specs.inside.DraftTokens.{joined_tokens, literal_tokens, one_token}
+use Rattle.rn_translate.specs.TokenTexts.{joined_tokens, literal_tokens, one_token}
 use Rattle.rn_translate.proofs.CutSigns.{between_spaces}
 use Rattle.rn_translate.proofs.CutTexts.{ascii, joined_apart, joined_closed}
 use Rattle.rn_translate.proofs.CutTokens.{token_cut}

@@ -14,7 +14,7 @@ use Rattle.rn_text.proofs.Cutting.FirstParts.{white_first}
 use Rattle.rn_translate.specs.Spelled.{Spelled}
 use Rattle.rn_translate.specs.Cuts.{Cut, IsSign, IsSpelledAs}
 use Rattle.rn_translate.specs.declared.signs.Sign.TheVariants as g
-use Rattle.rn_translate.specs.inside.DraftTokens.{one_token}
+use Rattle.rn_translate.specs.TokenTexts.{one_token}
 use Rattle.rn_translate.specs.inside.SignTokens.{sign_tokens, symbol_token}
 use Rattle.rn_translate.proofs.CutTexts.{IsPlain, ascii, plain_characters, joined_apart, joined_closed, nothing_cut}
 use Rattle.rn_translate.proofs.CutTokens.{part_cut, token_cut}

@@ -1,6 +1,6 @@
 -- Texts that are cut into tokens, one behind the other.
 use Rattle.std.proofs.Common.{◌≡◌, ℕ, ◌+◌, ◌<◌, Bool, true, false, List, [], ◌∷◌, ◌++◌, length, refl, sym, ap, ◌∙◌, subst, ltb, append_assoc, append-nil, ⊎_elim, arith}
-use mathlib.Core.Logic.{∥∥₁_map₂, ∥∥₁_elim}
+use mathlib.Core.Logic.{∥∥₁_map, ∥∥₁_map₂, ∥∥₁_elim}
 use mathlib.Core.HLevel.{⊥_prop}
 use Rattle.std.proofs.lemmas.Bool.{and_parts, cond-false, ltb-true}
 use Rattle.std.specs.Prelude.{map}
@@ -19,8 +19,8 @@ use Rattle.rn_text.proofs.TokenLists.OneFaultPlace.{list_or_place}
 use Rattle.rn_text.proofs.TokenLists.TokensOrFault.{tokens_or_place}
 use Rattle.rn_text.proofs.Words.AppendedLists.{all_append}
 use Rattle.rn_translate.specs.Spelled.{Spelled}
-use Rattle.rn_translate.specs.inside.DraftTokens.{spelled_of}
-use Rattle.rn_translate.specs.Cuts.{Cut, HasParts, IsSpelledAs, may_follow, spelled, spelled_at}
+use Rattle.rn_translate.specs.TokenTexts.{spelled_of}
+use Rattle.rn_translate.specs.Cuts.{Cut, HasParts, IsSpelledAs, IsTextOf, may_follow, spelled, spelled_at}
 
 -- ASCII characters are their bytes
 pub ascii : (cs : List ℕ) → list_all (λ c. ltb c 128) cs ≡ true → encode_utf8_all cs ≡ cs
@@ -153,3 +153,11 @@ spelled_lexemes place [] = refl
 spelled_lexemes place (p ∷ ps) =
     let bytes = encode_utf8_all p.spelling in
     spelled_first p.part place bytes (lexemes (place + width p) ps) ∙ ap (λ l. spelled_at p.part bytes ++ l) (spelled_lexemes (place + width p) ps)
+
+-- a text of these tokens has them as its token list
+pub text_of_tokens : (b : Bool) (x : Text) (tokens : List Spelled) → IsSpelledAs b x tokens → has_mark (chars x) ≡ false → IsTextOf x tokens
+text_of_tokens b x tokens h m = ∥∥₁_map h (λ c. record {
+  lexemes = lexemes (unmarked_start (text_of c.pieces)) c.pieces;
+  has = cut_tokens c m;
+  are = spelled_lexemes (unmarked_start (text_of c.pieces)) c.pieces ∙ c.tokens_are;
+})

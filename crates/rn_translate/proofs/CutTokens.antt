@@ -22,7 +22,7 @@ use Rattle.rn_text.proofs.Words.AppendedLists.{all_append}
 use Rattle.rn_text.proofs.Words.XmlNames.{ncname_xml}
 use Rattle.rn_translate.specs.Spelled.{Spelled}
 use Rattle.rn_translate.specs.Cuts.{Cut, HasParts, IsSpelledAs, may_follow, spelled_at}
-use Rattle.rn_translate.specs.inside.DraftTokens.{one_token, word_kind, word_token}
+use Rattle.rn_translate.specs.TokenTexts.{one_token, word_kind, word_token}
 use Rattle.rn_translate.proofs.CutTexts.{ascii, plain_characters}
 
 one_cut : (p : Part) (s rest : List ℕ) → IsFirstPart (s ++ rest) p s rest → IsCut (text_of (record { part = p; spelling = s } ∷ []) ++ rest) (record { part = p; spelling = s } ∷ []) rest

@@ -3,7 +3,7 @@ use Rattle.std.proofs.Common.{◌≡◌, cond, true, false, List, [], ◌∷◌,
 use Rattle.std.specs.Prelude.{bytes_eq}
 use Rattle.std.specs.List.{find}
 use Rattle.rn_text.specs.Texts.{Text}
-use Rattle.rn_translate.specs.inside.SchemaElements.{kind_in, kind_name}
+use Rattle.rn_translate.specs.SchemaElements.{kind_in, kind_name}
 use Rattle.rn_translate.specs.declared.kinds.Kind.{Kind}
 
 pub found_kind : (x : Text) (ks : List Kind) → find (λ k. bytes_eq (kind_name k) x) ks ≡ kind_in ks x

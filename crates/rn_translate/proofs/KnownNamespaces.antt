@@ -3,7 +3,7 @@ use Rattle.std.proofs.Common.{◌≡◌, ℕ, zero, suc, ◌+◌, ◌<◌, List,
 use Rattle.std.specs.Prelude.{Option, map, slice_get, string_bytes, unwrap_or}
 use Rattle.std.specs.Option.{option_map_or}
 use Rattle.std.proofs.lemmas.List.{map-append, take_more}
-use Rattle.rn_translate.specs.inside.Terms.{Namespace, uri}
+use Rattle.rn_translate.specs.Terms.{Namespace, uri}
 use Rattle.rn_translate.specs.inside.Meanings.{uri_meant}
 use Rattle.rn_translate.specs.inside.UriTables.{IsTable, empty_uri}
 use Rattle.rn_translate.specs.declared.uris.Uri.{Uri}

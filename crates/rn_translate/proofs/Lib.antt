@@ -4,7 +4,6 @@ pub mod CutTokens
 pub mod CutSigns
 pub mod CutLiterals
 pub mod WrittenTokens
-pub mod TreeSteps
 pub mod AddedTerms
 pub mod MeantElements
 pub mod ScopedTerms
@@ -23,9 +22,6 @@ pub mod AddedUris
 pub mod MadeUris
 pub mod KnownNamespaces
 pub mod BoundUris
-pub mod TreeTexts
-pub mod OpenSteps
-pub mod ChildSteps
 pub mod PrintedMeanings
 pub mod LeftScopes
-pub mod RootSteps
+pub mod Walking

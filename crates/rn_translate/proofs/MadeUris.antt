@@ -6,7 +6,8 @@ use Rattle.std.proofs.lemmas.Option.{none-some, same_Some}
 use Rattle.rn_text.specs.Texts.{Text}
 use Rattle.rn_xml.specs.XmlTags.{xml_uri}
 use Rattle.rn_xml.specs.declared.document.XmlAttribute.{XmlAttribute}
-use Rattle.rn_translate.specs.inside.UriTables.{AreIndexed, HasAdded, HasUri, IsTable, gives_uri, index_of, text_at, xsd_uri}
+use Rattle.rn_translate.specs.inside.UriTables.{AreIndexed, HasAdded, HasUri, IsTable, gives_uri, index_of, text_at}
+use Rattle.rn_translate.specs.SchemaTokens.{xsd_uri}
 use Rattle.rn_translate.specs.declared.uris.Uris.{Uris}
 use Rattle.rn_translate.proofs.AddedUris.{has_still}
 

@@ -3,8 +3,8 @@ use Rattle.std.proofs.Common.{◌≡◌, List, ◌++◌, sym, ap, ◌∙◌, sub
 use Rattle.std.specs.Prelude.{Result, OnOk, IfOk, ◌&&◌, not}
 use Rattle.std.proofs.lemmas.Result.{IfOk-weaker}
 use Rattle.rn_xml.specs.declared.document.XmlElement.{XmlElement}
-use Rattle.rn_translate.specs.inside.Terms.{Term, open_parenthesis, close_parenthesis}
-use Rattle.rn_translate.specs.inside.Layouts.{Written, Layout, begins, begins_operands, if_so, is_alone, is_closed, is_tight, layout, operands, then_behind}
+use Rattle.rn_translate.specs.Terms.{Term, open_parenthesis, close_parenthesis}
+use Rattle.rn_translate.specs.Layouts.{Written, Layout, begins, begins_operands, if_so, is_alone, is_closed, is_tight, layout, operands, then_behind}
 use Rattle.rn_translate.specs.inside.Meanings.{Adds, is_parted, layout_meant, sign_terms}
 use Rattle.rn_translate.specs.inside.ElementsMeant.{IsMeant}
 use Rattle.rn_translate.proofs.AddedTerms.{ok_equal, scope_in}

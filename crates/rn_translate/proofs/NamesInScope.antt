@@ -13,9 +13,9 @@ use Rattle.rn_xml.specs.declared.document.XmlDeclaration.{XmlDeclaration}
 use Rattle.rn_xml.specs.declared.document.XmlDocument.{XmlDocument}
 use Rattle.rn_xml.specs.inside.OpenTables.{binding_at, Denotes}
 use Rattle.rn_xml.proofs.ScopeMeans.{innermost_last}
-use Rattle.rn_translate.specs.inside.Terms.{Namespace, uri, local as local_term, prefixed}
-use Rattle.rn_translate.specs.inside.SchemaElements.{parted, prefix_and_local, prefix_uri}
-use Rattle.rn_translate.specs.inside.Layouts.{is_same, name_term}
+use Rattle.rn_translate.specs.Terms.{Namespace, uri, local as local_term, prefixed}
+use Rattle.rn_translate.specs.SchemaElements.{parted, prefix_and_local, prefix_uri}
+use Rattle.rn_translate.specs.Layouts.{is_same, name_term}
 use Rattle.rn_translate.specs.inside.Meanings.{uri_meant}
 use Rattle.rn_translate.specs.inside.UriTables.{empty_uri}
 use Rattle.rn_translate.specs.inside.ElementsMeant.{KnowsUris}

@@ -2,10 +2,10 @@
 use Rattle.std.proofs.Common.{◌≡◌, ℕ, ◌+◌, ◌==◌, false, List, sym, ap, ◌∙◌, subst}
 use Rattle.std.specs.Prelude.{nat_le, if◌then◌else◌}
 use Rattle.rn_xml.specs.declared.document.XmlElement.{XmlElement}
-use Rattle.rn_translate.specs.inside.Terms.{Term}
-use Rattle.rn_translate.specs.inside.Layouts.{Written, layout}
+use Rattle.rn_translate.specs.Terms.{Term}
+use Rattle.rn_translate.specs.Layouts.{Written, layout}
 use Rattle.rn_translate.specs.inside.Meanings.{Adds, class_meant}
-use Rattle.rn_translate.specs.inside.Translation.{place_of, standing_of}
+use Rattle.rn_translate.specs.Translation.{place_of, standing_of}
 use Rattle.rn_translate.specs.inside.ElementsMeant.{Comes, IsChildOf}
 use Rattle.rn_translate.specs.declared.kinds.Kind.{Kind}
 use Rattle.rn_translate.specs.declared.translator.Context.{Context as CodeContext}

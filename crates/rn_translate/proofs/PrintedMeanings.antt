@@ -24,16 +24,18 @@ use Rattle.rn_translate.specs.declared.terms.Term.{Term as CodeTerm}
 use Rattle.rn_translate.specs.declared.terms.Term.TheVariants as t
 use Rattle.rn_translate.specs.declared.uris.Uri.{Uri}
 use Rattle.rn_translate.specs.declared.uris.Uris.{Uris}
-use Rattle.rn_translate.specs.inside.Terms.{Namespace, inherited, uri, Term, keyword, symbol, identifier, local, prefixed, any_of, prefix, datatype, literal}
-use Rattle.rn_translate.specs.inside.Layouts.{is_same}
+use Rattle.rn_translate.specs.Terms.{Namespace, inherited, uri, Term, keyword, symbol, identifier, local, prefixed, any_of, prefix, datatype, literal}
+use Rattle.rn_translate.specs.Layouts.{is_same}
 use Rattle.rn_translate.specs.inside.Meanings.{known, sign_terms, term_meant, terms_meant, uri_meant}
-use Rattle.rn_translate.specs.inside.UriTables.{IsTable, empty_uri, xsd_uri}
-use Rattle.rn_translate.specs.inside.DraftTokens.{identifier_token, literal_tokens, one_token, word_token}
+use Rattle.rn_translate.specs.inside.UriTables.{IsTable, empty_uri}
+use Rattle.rn_translate.specs.SchemaTokens.{xsd_uri}
+use Rattle.rn_translate.specs.TokenTexts.{identifier_token, literal_tokens, one_token, word_token}
 use Rattle.rn_translate.specs.inside.SignTokens.{sign_tokens}
-use Rattle.rn_translate.specs.inside.PrintedTerms.{bound_tokens, datatype_token, declared_tokens, default_tokens, is_built_in, number_of, numbered_bytes, prefix_bytes, prefixes_tokens, printed_tokens, term_tokens, terms_tokens, uri_text, uri_tokens}
+use Rattle.rn_translate.specs.inside.PrintedTerms.{bound_tokens, datatype_token, declared_tokens, default_tokens, is_built_in, number_of, prefix_bytes, prefixes_tokens, printed_tokens, term_tokens, terms_tokens, uri_text, uri_tokens}
+use Rattle.rn_translate.specs.TokenTexts.{numbered_bytes}
 use Rattle.rn_translate.specs.inside.NeededPrefixes.{AreBound, each_once, is_uri, needed_libraries, needed_library, needed_namespace, needed_namespaces, place_in, unless}
 use Rattle.rn_translate.specs.inside.PrintedSchemas.{IsPrintable}
-use Rattle.rn_translate.specs.inside.SchemaTokens.{bound_to, default_declared, is_keyword_type, library_needed, namespace_needed, namespace_prefix, namespace_tokens, namespace_unless, number_among, once, place_among, prefixes_declared, schema_tokens, tokens_of, type_tokens}
+use Rattle.rn_translate.specs.SchemaTokens.{bound_to, default_declared, is_keyword_type, library_needed, namespace_needed, namespace_prefix, namespace_tokens, namespace_unless, number_among, once, place_among, prefixes_declared, schema_tokens, tokens_of, type_tokens}
 use Rattle.rn_translate.proofs.UriMeanings.{Means, empty_meant, meaning, meant_at, same_meant}
 
 zero_is : (k : ℕ) → k ≡ 0 → (k == 0) ≡ true

@@ -1,7 +1,7 @@
 -- Terms that are added while the declarations that prefixes mean change.
 use Rattle.std.proofs.Common.{◌≡◌, Some, List, ◌++◌, sym, ap, ◌∙◌, subst, append_assoc}
 use Rattle.std.proofs.lemmas.List.{map-append}
-use Rattle.rn_translate.specs.inside.Terms.{Term}
+use Rattle.rn_translate.specs.Terms.{Term}
 use Rattle.rn_translate.specs.inside.Meanings.{Adds, AddsInScope, known, terms_meant}
 use Rattle.rn_translate.specs.declared.translator.Translator.{Translator}
 

@@ -14,7 +14,7 @@ use Rattle.std.proofs.lemmas.List.Sorted.{answers_always}
 use Rattle.std.proofs.lemmas.Str.{encode_ascii, len_utf8_bounds}
 use denote.Param.Members.{Mut}
 use Rattle.rn_text.specs.Texts.{is_white}
-use Rattle.rn_translate.specs.inside.SchemaElements.{without_end, without_front}
+use Rattle.rn_translate.specs.SchemaElements.{without_end, without_front}
 
 -- white space is of ASCII
 white_small : (c : ℕ) → is_white c ≡ true → c < 128

@@ -6,8 +6,8 @@ use Rattle.std.proofs.lemmas.Bool.Decides.{nat_tests}
 use Rattle.std.proofs.lemmas.Option.{none-some, same_Some}
 use Rattle.rn_text.specs.Texts.{Text}
 use Rattle.rn_xml.proofs.ScopeMeans.{equal_bytes, other_bytes}
-use Rattle.rn_translate.specs.inside.Terms.{Namespace, inherited, uri}
-use Rattle.rn_translate.specs.inside.Layouts.{is_same}
+use Rattle.rn_translate.specs.Terms.{Namespace, inherited, uri}
+use Rattle.rn_translate.specs.Layouts.{is_same}
 use Rattle.rn_translate.specs.inside.Meanings.{uri_meant}
 use Rattle.rn_translate.specs.inside.UriTables.{AreIndexed, IsTable, empty_uri, text_at}
 use Rattle.rn_translate.specs.declared.uris.Uri.{Uri}

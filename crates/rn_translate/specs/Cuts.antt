@@ -1,5 +1,5 @@
 -- Texts that are cut into tokens, whatever follows (RELAX NG Compact Syntax, 2 and appendix A).
-use Rattle.std.specs.Prelude.{◌≡◌, ℕ, Bool, true, false, if◌then◌else◌, List, [], ◌∷◌, ◌++◌, codes}
+use Rattle.std.specs.Prelude.{◌≡◌, ℕ, Bool, true, false, if◌then◌else◌, List, [], ◌∷◌, ◌++◌, map, codes}
 use Rattle.std.specs.List.{list_all}
 use Rattle.std.specs.Str.{chars, encode_utf8_all}
 use Rattle.rn_text.specs.Characters.{is_xml_char}
@@ -7,8 +7,9 @@ use Rattle.rn_text.specs.declared.parts.Part.{Part}
 use Rattle.rn_text.specs.declared.parts.Part.TheVariants.{Space, Comment, Token}
 use Rattle.rn_text.specs.Parts.{Piece, IsCut, ends_token, text_of}
 use Rattle.rn_text.specs.Texts.{Text}
-use Rattle.rn_text.specs.Tokens.{has_mark}
+use Rattle.rn_text.specs.Tokens.{HasTokens, Lexeme, has_mark}
 use Rattle.rn_translate.specs.Spelled.{Spelled}
+use Rattle.rn_translate.specs.TokenTexts.{spelled_of}
 
 -- what may follow a text: behind a word, the end or a character before which each token ends; else anything
 abbrev pub may_follow : (is_open : Bool) → List ℕ → Bool
@@ -45,6 +46,16 @@ HasParts is_open text = ∥ AnyCut is_open text ∥₁
 -- the same, and these are the tokens
 abbrev pub IsSpelledAs : (is_open : Bool) → Text → List Spelled → Type 0
 IsSpelledAs is_open text tokens = ∥ Cut is_open text tokens ∥₁
+
+-- the text has this token list, and these are its tokens by their kinds and texts
+pub record Lexed (text : Text) (tokens : List Spelled) : Type 0 where
+  pub lexemes : List Lexeme
+  pub has : HasTokens (chars text) lexemes
+  pub are : map spelled_of lexemes ≡ tokens
+
+-- the text is a text of these tokens, with white space and comments between them
+abbrev pub IsTextOf : Text → List Spelled → Type 0
+IsTextOf text tokens = ∥ Lexed text tokens ∥₁
 
 -- the text of these tokens may stand behind a word, and before anything; it begins with no byte order mark
 pub record IsSign (text : Text) (tokens : List Spelled) : Type 0 where

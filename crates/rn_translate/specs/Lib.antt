@@ -3,3 +3,9 @@ pub mod Limits
 pub mod Origins
 pub mod Spelled
 pub mod Cuts
+pub mod TokenTexts
+pub mod Terms
+pub mod SchemaElements
+pub mod Layouts
+pub mod Translation
+pub mod SchemaTokens

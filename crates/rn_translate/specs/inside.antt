@@ -9,9 +9,4 @@ pub mod ElementsMeant
 pub mod OpenLevels
 pub mod PrintedTerms
 pub mod NeededPrefixes
-pub mod SchemaTokens
 pub mod PrintedSchemas
-pub mod Terms
-pub mod SchemaElements
-pub mod Layouts
-pub mod Translation

@@ -1,6 +1,6 @@
 // What elements of RELAX NG hold (RELAX NG 2001, section 3).
 ghost use Rattle.std.specs.Prelude.{◌≡◌, ◌-◌, ◌&&◌, not, if◌then◌else◌};
-ghost use Rattle.rn_translate.specs.inside.Layouts.{has_name};
+ghost use Rattle.rn_translate.specs.Layouts.{has_name};
 
 use crate::kinds::{Kind, Role};
 use crate::rng_fault::RngFaultKind;

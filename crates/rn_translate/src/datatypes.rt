@@ -1,8 +1,8 @@
 // What values, data and parameters come to in the compact text (compact syntax, section 3).
 ghost use Rattle.std.specs.Prelude.{◌≡◌, ◌∷◌, ◌++◌, [], true, codes, IfOk, OnOk};
-ghost use Rattle.rn_translate.specs.inside.Terms.{close_brace, close_parenthesis, datatype as datatype_term, literal, open_brace, open_parenthesis};
-ghost use Rattle.rn_translate.specs.inside.SchemaElements.{holds_text, name_in, value_of};
-ghost use Rattle.rn_translate.specs.inside.Layouts.{Written, around, begins_param, datatype_terms, if_so, is_closed};
+ghost use Rattle.rn_translate.specs.Terms.{close_brace, close_parenthesis, datatype as datatype_term, literal, open_brace, open_parenthesis};
+ghost use Rattle.rn_translate.specs.SchemaElements.{holds_text, name_in, value_of};
+ghost use Rattle.rn_translate.specs.Layouts.{Written, around, begins_param, datatype_terms, if_so, is_closed};
 ghost use Rattle.rn_translate.specs.inside.Meanings.{Adds, is_parted, layout_meant, sign_terms};
 ghost use Rattle.rn_translate.specs.inside.ElementsMeant.{IsMeant};
 

@@ -1,11 +1,11 @@
 // The parts of a document that a schema is made of: its elements of RELAX NG, attributes and texts.
-ghost use Rattle.std.specs.Prelude.{◌≡◌, ◌+◌, ◌<◌, ◌^◌, ◌||◌, ◌&&◌, [], ℕ, None, IsSome, bytes_eq, if◌then◌else◌, nat_lt, option_map, slice_get, string_bytes, vec_len};
+ghost use Rattle.std.specs.Prelude.{◌≡◌, ◌+◌, ◌<◌, ◌≤◌, ◌^◌, ◌||◌, ◌&&◌, [], ℕ, None, IfNone, IsSome, bytes_eq, if◌then◌else◌, nat_lt, option_map, slice_get, string_bytes, vec_len};
 ghost use Rattle.rn_text.specs.Texts.{is_white};
 ghost use Rattle.rn_xml.specs.Infoset.{Nodes};
 ghost use Rattle.rn_xml.specs.DocumentTrees.{AreChildren, name_of, uri_at_index};
-ghost use Rattle.rn_translate.specs.inside.SchemaElements.{count_of, has_except, is_except_kind, is_foreign, kind_of, rng_uri, text_of, trimmed, value_of};
+ghost use Rattle.rn_translate.specs.SchemaElements.{count_of, has_except, is_except_kind, is_foreign, kind_of, rng_uri, text_of, trimmed, value_of};
 ghost use Rattle.rn_translate.specs.inside.ElementsMeant.{attributes_at};
-ghost use Rattle.rn_translate.specs.inside.Walks.{AreNested, IsContent, content_at};
+ghost use Rattle.rn_translate.specs.inside.Walks.{AreNested, IsContent, IsOutside, content_at};
 
 use crate::kinds::{Kind, Role};
 use rn_xml::{XmlAttribute, XmlDocument, XmlElement, XmlText};
@@ -135,6 +135,40 @@ pub(crate) fn content_of<'d>(
         Some(first) if first.parent == index => (first.at, first.content.as_str()),
         _ => (at, ""),
     }
+}
+
+/// The first element in the element of this index.
+pub(crate) fn element_inside<'d, 'a>(
+    document: &'d XmlDocument<'a>,
+    index: usize,
+    element: &XmlElement<'a>,
+) -> Option<&'d XmlElement<'a>>
+    requires { index + 1 < 2 ^ 64 }
+    ensures { (t after : ℕ) (k : Nodes)
+        → AreChildren document.now index (index + 1) t k element.now.«end» after
+        → IfNone result (element.now.«end» ≤ index + 1) }
+{
+    child_at(document, element.end, index + 1)
+}
+
+/// The index of the first text, from this one on, that is in none of the elements from this index up to `end`.
+pub(crate) fn behind_texts(
+    document: &XmlDocument<'_>,
+    text: usize,
+    index: usize,
+    end: usize,
+) -> usize
+    ensures { (k : Nodes) (after : ℕ) → AreChildren document.now index (index + 1) text k end after
+        → IsOutside document.now index end after → result ≡ after }
+{
+    let mut next = text;
+    'texts: while let Some(passed) = text_at(document, next) {
+        if passed.parent < index || passed.parent >= end {
+            break;
+        }
+        next += 1;
+    }
+    next
 }
 
 /// The children of the element of this index, which are before the element `end`.

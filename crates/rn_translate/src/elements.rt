@@ -1,8 +1,8 @@
 // What each element of RELAX NG comes to in the compact text (compact syntax, section 3).
 ghost use Rattle.std.specs.Prelude.{◌≡◌, ◌∷◌, ◌++◌, [], codes, unwrap_or, IfOk, OnOk};
-ghost use Rattle.rn_translate.specs.inside.Terms.{keyword as keyword_term, close_brace, identifier, open_brace, open_parenthesis, close_parenthesis, symbol};
-ghost use Rattle.rn_translate.specs.inside.SchemaElements.{name_in, value_of};
-ghost use Rattle.rn_translate.specs.inside.Layouts.{Written, around, begins, begins_operands, if_so, is_tight, layout, operands, then_behind};
+ghost use Rattle.rn_translate.specs.Terms.{keyword as keyword_term, close_brace, identifier, open_brace, open_parenthesis, close_parenthesis, symbol};
+ghost use Rattle.rn_translate.specs.SchemaElements.{name_in, value_of};
+ghost use Rattle.rn_translate.specs.Layouts.{Written, around, begins, begins_operands, if_so, is_tight, layout, operands, then_behind};
 ghost use Rattle.rn_translate.specs.inside.Meanings.{Adds, is_parted, layout_meant, sign_terms};
 ghost use Rattle.rn_translate.specs.inside.ElementsMeant.{IsMeant, attributes_at};
 

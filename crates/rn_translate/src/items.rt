@@ -1,8 +1,8 @@
 // What grammars, their items and references to files come to in the compact text (compact syntax, section 3).
 ghost use Rattle.std.specs.Prelude.{◌≡◌, ◌∷◌, ◌++◌, [], true, Some, IfOk, OnOk, codes, nat_le, not};
-ghost use Rattle.rn_translate.specs.inside.Terms.{Namespace, keyword as keyword_term, close_brace, open_brace};
-ghost use Rattle.rn_translate.specs.inside.SchemaElements.{value_of};
-ghost use Rattle.rn_translate.specs.inside.Layouts.{Written, around, begins, begins_definition, defined, if_so, inherit_terms, is_of_grammar, layout, link_terms, method_term, operands};
+ghost use Rattle.rn_translate.specs.Terms.{Namespace, keyword as keyword_term, close_brace, open_brace};
+ghost use Rattle.rn_translate.specs.SchemaElements.{value_of};
+ghost use Rattle.rn_translate.specs.Layouts.{Written, around, begins, begins_definition, defined, if_so, inherit_terms, is_of_grammar, layout, link_terms, method_term, operands};
 ghost use Rattle.rn_translate.specs.inside.UriTables.{IsTable};
 ghost use Rattle.rn_translate.specs.inside.Meanings.{Adds, layout_meant, sign_terms, uri_meant};
 ghost use Rattle.rn_translate.specs.inside.ElementsMeant.{IsMeant, attributes_at};

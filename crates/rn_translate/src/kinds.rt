@@ -1,6 +1,6 @@
 // The elements of RELAX NG, and where each may be (RELAX NG 2001, section 3).
 ghost use Rattle.std.specs.Prelude.{◌≡◌, Some};
-ghost use Rattle.rn_translate.specs.inside.SchemaElements.{holds_text, is_foreign, kind_in, kind_name, kinds};
+ghost use Rattle.rn_translate.specs.SchemaElements.{holds_text, is_foreign, kind_in, kind_name, kinds};
 
 /// An element of RELAX NG, or one of another vocabulary.
 #[derive(Clone, Copy, Debug, PartialEq, Eq)]

@@ -1,9 +1,9 @@
 // What elements and attributes with their names, and name classes, come to in the compact text (compact syntax, section 3).
 ghost use Rattle.std.specs.Prelude.{◌≡◌, ◌++◌, List, [], true, Some, None, codes, if◌then◌else◌, string_bytes, IfOk, OnOk};
-ghost use Rattle.rn_translate.specs.inside.Terms.{Term as MeantTerm, close_parenthesis, open_parenthesis};
+ghost use Rattle.rn_translate.specs.Terms.{Term as MeantTerm, close_parenthesis, open_parenthesis};
 ghost use Rattle.rn_translate.specs.inside.TermNames.{has_names};
-ghost use Rattle.rn_translate.specs.inside.SchemaElements.{holds_text, value_of};
-ghost use Rattle.rn_translate.specs.inside.Layouts.{Written, around, begins_named, closing, given_name, has_name, if_so, name_terms, named, opening, operands, then_behind, unprefixed_in};
+ghost use Rattle.rn_translate.specs.SchemaElements.{holds_text, value_of};
+ghost use Rattle.rn_translate.specs.Layouts.{Written, around, begins_named, closing, given_name, has_name, if_so, name_terms, named, opening, operands, then_behind, unprefixed_in};
 ghost use Rattle.rn_translate.specs.inside.Meanings.{Adds, is_parted, known, layout_meant, sign_terms, term_meant, uri_meant};
 ghost use Rattle.rn_translate.specs.inside.ElementsMeant.{IsMeant};
 

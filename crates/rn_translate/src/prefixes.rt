@@ -2,7 +2,8 @@
 ghost use Rattle.std.specs.Prelude.{◌≡◌, [], true, IfOk, OnOk, Some, string_bytes};
 ghost use Rattle.std.specs.Str.{chars};
 ghost use Rattle.rn_text.specs.Characters.{is_name_start, is_ncname};
-ghost use Rattle.rn_translate.specs.inside.PrintedTerms.{number_of, numbered_bytes};
+ghost use Rattle.rn_translate.specs.inside.PrintedTerms.{number_of};
+ghost use Rattle.rn_translate.specs.TokenTexts.{numbered_bytes};
 ghost use Rattle.rn_translate.specs.inside.NeededPrefixes.{AreBound, AreNumbered, HasBound};
 
 use crate::uris::Uri;

@@ -2,9 +2,9 @@
 ghost use Rattle.std.specs.Prelude.{◌≡◌, [], true, List, IfOk, OnOk, string_bytes};
 ghost use Rattle.std.specs.Str.{chars};
 ghost use Rattle.rn_text.specs.Characters.{is_name_start, is_ncname};
-ghost use Rattle.rn_translate.specs.inside.Terms.{Namespace, Term as MeantTerm};
+ghost use Rattle.rn_translate.specs.Terms.{Namespace, Term as MeantTerm};
 ghost use Rattle.rn_translate.specs.inside.DraftTokens.{IsPrintedAs, Writes};
-ghost use Rattle.rn_translate.specs.inside.SchemaTokens.{schema_tokens};
+ghost use Rattle.rn_translate.specs.SchemaTokens.{schema_tokens};
 ghost use Rattle.rn_translate.specs.inside.PrintedSchemas.{IsPrintable};
 ghost use Rattle.rn_translate.specs.inside.NeededPrefixes.{AreBound, each_once, needed_libraries, needed_library, needed_namespace, needed_namespaces, unless};
 ghost use Rattle.rn_translate.specs.inside.PrintedTerms.{bound_tokens, datatype_token, declared_tokens, default_tokens, is_built_in, prefix_bytes, prefix_tokens, prefixes_tokens, printed_tokens, term_tokens, terms_tokens, uri_tokens};

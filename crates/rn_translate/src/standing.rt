@@ -1,7 +1,7 @@
 // Where a pattern or a name class stands in the compact text, and what is written round it.
 ghost use Rattle.std.specs.Prelude.{◌≡◌, ◌++◌, ◌&&◌, [], None, nat_le, not};
-ghost use Rattle.rn_translate.specs.inside.Layouts.{around, is_alone, is_tight, needs_parentheses, operands, operator_term, then_behind};
-ghost use Rattle.rn_translate.specs.inside.Translation.{before_child, behind_child, standing_of};
+ghost use Rattle.rn_translate.specs.Layouts.{around, is_alone, is_tight, needs_parentheses, operands, operator_term, then_behind};
+ghost use Rattle.rn_translate.specs.Translation.{before_child, behind_child, standing_of};
 ghost use Rattle.rn_translate.specs.inside.Meanings.{class_meant, layout_meant, sign_terms};
 
 use crate::signs::Sign;

@@ -7,7 +7,8 @@ ghost use Rattle.rn_text.specs.Keywords.{spelling};
 ghost use Rattle.rn_text.specs.Literals.{literal_bytes};
 ghost use Rattle.rn_text.specs.declared.parts.Kind.TheVariants as kinds;
 ghost use Rattle.rn_translate.specs.Cuts.{gap};
-ghost use Rattle.rn_translate.specs.inside.DraftTokens.{Writes, identifier_token, literal_tokens, one_token, word_token};
+ghost use Rattle.rn_translate.specs.inside.DraftTokens.{Writes};
+ghost use Rattle.rn_translate.specs.TokenTexts.{identifier_token, literal_tokens, one_token, word_token};
 
 use crate::draft::Draft;
 use crate::rng_fault::{RngFault, RngFaultKind};

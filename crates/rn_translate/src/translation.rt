@@ -3,7 +3,14 @@ ghost use Rattle.std.specs.Prelude.{◌≡◌, ◌≤◌, List, length, string_b
 ghost use Rattle.std.specs.Str.{chars};
 ghost use Rattle.std.specs.String.{string_len};
 ghost use Rattle.rn_text.specs.Tokens.{HasTokens, Lexeme};
+ghost use Rattle.rn_xml.specs.Infoset.{Node};
+ghost use Rattle.rn_xml.specs.DocumentTrees.{HoldsRoot, IsReadFrom};
 ghost use Rattle.rn_translate.specs.Limits.{max_text};
+ghost use Rattle.rn_translate.specs.Cuts.{IsTextOf};
+ghost use Rattle.rn_translate.specs.Translation.{default_of, schema_terms};
+ghost use Rattle.rn_translate.specs.SchemaTokens.{schema_tokens};
+ghost use Rattle.rn_translate.specs.inside.DraftTokens.{IsPrintedAs};
+ghost use Rattle.rn_translate.specs.inside.OpenLevels.{AreSound};
 ghost use Rattle.rn_translate.specs.Origins.{AreOrigins};
 
 use crate::draft::Draft;
@@ -29,6 +36,9 @@ pub fn compact_text(
 ) -> Result<Translated, RngFault>
     ensures tokens { IfOk result (λ made. (tokens : List Lexeme)
         × HasTokens (chars (string_bytes made.text)) tokens) }
+    ensures translation { (read : IsReadFrom (chars source.now) document.now)
+        → IfOk result (λ made. IsTextOf (string_bytes made.text)
+        (schema_tokens (default_of read.root) (schema_terms read.root))) }
     ensures small { IfOk result (λ made. string_len made.text ≤ max_text) }
     ensures origins { IfOk result (λ made. AreOrigins (string_len made.text) (length source.now)
         made.origins.items.items) }
@@ -48,7 +58,10 @@ pub fn compact_text(
 
 /// The compact text of a document: its declarations, and what its elements come to.
 fn whole_text(alloc: Global, source: &str, document: &XmlDocument<'_>) -> Result<Draft, RngFault>
-    ensures { IfOk result (λ whole. whole.source_len ≡ length source.now) }
+    ensures source { IfOk result (λ whole. whole.source_len ≡ length source.now) }
+    ensures meant { (root : Node) → AreSound document.now → HoldsRoot document.now root
+        → IfOk result (λ whole. IsPrintedAs whole
+        (schema_tokens (default_of root) (schema_terms root))) }
 {
     let mut translator = Translator::new(alloc, source, document)?;
     translator.walk()?;

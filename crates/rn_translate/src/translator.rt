@@ -2,10 +2,10 @@
 ghost use Rattle.std.specs.Prelude.{◌≡◌, ◌==◌, ◌<◌, ◌≤◌, ◌+◌, ◌-◌, ◌*◌, ◌^◌, ◌++◌, ℕ, true, false, if◌then◌else◌, nat_le, List, IfOk, OnOk, Some, codes, slice_get, vec_len};
 ghost use Rattle.rn_xml.specs.Infoset.{Nodes};
 ghost use Rattle.rn_xml.specs.XmlTags.{AreDistinct, Scope};
-ghost use Rattle.rn_translate.specs.inside.Terms.{Namespace, Term as MeantTerm};
-ghost use Rattle.rn_translate.specs.inside.SchemaElements.{bare_in, nearest, text_of, value_of};
-ghost use Rattle.rn_translate.specs.inside.Layouts.{Written, begins, layout};
-ghost use Rattle.rn_translate.specs.inside.Translation.{before_child, behind_child, standing_of};
+ghost use Rattle.rn_translate.specs.Terms.{Namespace, Term as MeantTerm};
+ghost use Rattle.rn_translate.specs.SchemaElements.{bare_in, nearest, text_of, value_of};
+ghost use Rattle.rn_translate.specs.Layouts.{Written, begins, layout};
+ghost use Rattle.rn_translate.specs.Translation.{before_child, behind_child, standing_of};
 ghost use Rattle.rn_translate.specs.inside.UriTables.{gives_uri};
 ghost use Rattle.rn_translate.specs.inside.ElementsMeant.{Comes, IsChildOf, IsInScope, IsMeant, KnowsUris, attributes_at, declared_at};
 ghost use Rattle.rn_translate.specs.inside.Meanings.{Adds, AddsInScope, class_meant, is_parted, known, layout_meant, sign_terms, term_meant, uri_meant};

@@ -1,7 +1,7 @@
 // Namespaces and datatype libraries of a document.
 ghost use Rattle.std.specs.Prelude.{◌≡◌, ◌==◌, ℕ, IfOk, OnOk, Some, slice_get, unwrap_or};
 ghost use Rattle.rn_xml.specs.DocumentTrees.{uri_at_index};
-ghost use Rattle.rn_translate.specs.inside.Terms.{uri as uri_namespace};
+ghost use Rattle.rn_translate.specs.Terms.{uri as uri_namespace};
 ghost use Rattle.rn_translate.specs.inside.PrintedTerms.{uri_text};
 ghost use Rattle.rn_translate.specs.inside.UriTables.{AreIndexed, HasAdded, HasUri, HasUrisOf, IsTable, gives_uri};
 ghost use Rattle.rn_translate.specs.inside.Meanings.{uri_meant};

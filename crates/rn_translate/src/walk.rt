@@ -3,14 +3,16 @@ ghost use Rattle.std.specs.Prelude.{◌≡◌, ◌<◌, ◌≤◌, ◌+◌, ◌-
 ghost use Rattle.std.specs.Option.{option_map_or};
 ghost use Rattle.rn_xml.specs.Infoset.{Node, Nodes};
 ghost use Rattle.rn_xml.specs.DocumentTrees.{AreChildren, HoldsRoot, name_of};
-ghost use Rattle.rn_translate.specs.inside.Terms.{Term as MeantTerm};
-ghost use Rattle.rn_translate.specs.inside.SchemaElements.{holds_text, kind_of};
-ghost use Rattle.rn_translate.specs.inside.Translation.{default_of, schema_terms};
+ghost use Rattle.rn_translate.specs.Terms.{Term as MeantTerm};
+ghost use Rattle.rn_translate.specs.SchemaElements.{holds_text, kind_of};
+ghost use Rattle.rn_translate.specs.Translation.{default_of, schema_terms};
 ghost use Rattle.rn_translate.specs.inside.Meanings.{known, terms_meant, uri_meant};
 ghost use Rattle.rn_translate.specs.inside.Walks.{AreNested, AreTextsPassed, IsOutside, TextsSkipped};
 ghost use Rattle.rn_translate.specs.inside.OpenLevels.{AreSound, IsAtStart, IsWalked};
 
-use crate::document_parts::{behind, child_at, element_at, kind_of, text_at, uri_at};
+use crate::document_parts::{
+    behind, behind_texts, child_at, element_at, element_inside, kind_of, text_at, uri_at,
+};
 use crate::kinds::{Kind, Role};
 use crate::rng_fault::{RngFault, RngFaultKind, shown};
 use crate::standing::Standing;
@@ -24,6 +26,9 @@ impl<'d, 'a> Translator<'d, 'a> {
         ensures meant { (root : Node) → IsAtStart self.old → AreSound self.old.document.now
             → HoldsRoot self.old.document.now root → OnOk result
             (terms_meant self.new.uris self.new.terms.items ≡ known (schema_terms root)) }
+        ensures uris { (root : Node) → IsAtStart self.old → AreSound self.old.document.now
+            → HoldsRoot self.old.document.now root
+            → OnOk result (self.new.uris ≡ self.old.uris) }
         ensures default { (root : Node) → IsAtStart self.old → AreSound self.old.document.now
             → HoldsRoot self.old.document.now root → OnOk result
             (uri_meant self.new.uris self.new.default ≡ Some (default_of root)) }
@@ -152,7 +157,7 @@ impl<'d, 'a> Translator<'d, 'a> {
         let kind = self.known_kind(child)?;
         if kind.is_foreign() {
             let behind = behind(index, child);
-            self.pass_foreign(index, behind);
+            self.text = behind_texts(document, self.text, index, behind);
             levels.push(around)?;
             return Ok(behind);
         }
@@ -179,7 +184,7 @@ impl<'d, 'a> Translator<'d, 'a> {
         if !kind.holds_text() {
             return Ok(());
         }
-        match child_at(document, element.end, index + 1) {
+        match element_inside(document, index, element) {
             None => Ok(()),
             Some(child) => {
                 let fault = match self.known_kind(child)? {
@@ -220,22 +225,6 @@ impl<'d, 'a> Translator<'d, 'a> {
         match element_at(self.document, index) {
             Some(element) => at < element.at,
             None => true,
-        }
-    }
-
-    /// Passes the texts in an element of another vocabulary.
-    fn pass_foreign(&mut self, index: usize, end: usize)
-        ensures same { self.new ≡ record self.old { text = self.new.text } }
-        ensures passed { (k : Nodes) (after : ℕ)
-            → AreChildren self.old.document.now index (index + 1) self.old.text k «end» after
-            → IsOutside self.old.document.now index «end» after → self.new.text ≡ after }
-    {
-        let document = self.document;
-        'texts: while let Some(text) = text_at(document, self.text) {
-            if text.parent < index || text.parent >= end {
-                break;
-            }
-            self.text += 1;
         }
     }
 

@@ -9,13 +9,13 @@ use Rattle.rn_xml.specs.DocumentTrees.{AreChildren, attribute_of, binding_of, ur
 use Rattle.rn_xml.specs.inside.OpenTables.{binding_at, Denotes}
 use Rattle.rn_xml.specs.declared.document.XmlElement.{XmlElement}
 use Rattle.rn_xml.specs.declared.document.XmlDocument.{XmlDocument}
-use Rattle.rn_translate.specs.inside.Terms.{Namespace, uri}
-use Rattle.rn_translate.specs.inside.SchemaElements.{Context, holds_text, text_of, value_of}
-use Rattle.rn_translate.specs.inside.Layouts.{Place, Written, layout}
+use Rattle.rn_translate.specs.Terms.{Namespace, uri}
+use Rattle.rn_translate.specs.SchemaElements.{Context, holds_text, text_of, value_of}
+use Rattle.rn_translate.specs.Layouts.{Place, Written, layout}
 use Rattle.rn_translate.specs.inside.UriTables.{HasUrisOf, IsTable, empty_uri}
 use Rattle.rn_translate.specs.inside.Meanings.{layout_meant, uri_meant}
 use Rattle.rn_translate.specs.inside.Walks.{AreNested, content_at}
-use Rattle.rn_translate.specs.inside.Translation.{place_of, written}
+use Rattle.rn_translate.specs.Translation.{place_of, written}
 use Rattle.rn_translate.specs.declared.kinds.Kind.{Kind}
 use Rattle.rn_translate.specs.declared.translator.Context.{Context as CodeContext}
 use Rattle.rn_translate.specs.declared.translator.Place.{Place as CodePlace}

@@ -1,8 +1,8 @@
 -- What the signs, terms and layouts of the code mean, and what is added to them.
 use Rattle.std.specs.Prelude.{◌≡◌, ◌==◌, Bool, not, ◌&&◌, if◌then◌else◌, List, [], ◌∷◌, ◌++◌, Option, Some, None, option_map, map, slice_get, codes}
 use Rattle.std.specs.List.{flat_map}
-use Rattle.rn_translate.specs.inside.Terms.{Namespace, inherited, uri, Term, keyword, symbol, identifier, local, prefixed, any_of, prefix, datatype, literal, open_brace, close_brace, close_parenthesis, any_text}
-use Rattle.rn_translate.specs.inside.Layouts.{Layout, is_alone}
+use Rattle.rn_translate.specs.Terms.{Namespace, inherited, uri, Term, keyword, symbol, identifier, local, prefixed, any_of, prefix, datatype, literal, open_brace, close_brace, close_parenthesis, any_text}
+use Rattle.rn_translate.specs.Layouts.{Layout, is_alone}
 use Rattle.rn_translate.specs.declared.signs.Sign.{Sign}
 use Rattle.rn_translate.specs.declared.signs.Sign.TheVariants as g
 use Rattle.rn_translate.specs.declared.standing.Layout.{Layout as CodeLayout}

@@ -1,14 +1,14 @@
 -- The elements that are open in the middle of a document, and the terms that are still to be added.
-use Rattle.std.specs.Prelude.{◌≡◌, ℕ, ◌+◌, ◌<◌, Some, List, [], ◌∷◌, ◌++◌, is_some, length, slice_get, codes}
+use Rattle.std.specs.Prelude.{◌≡◌, ℕ, ◌<◌, Some, List, [], ◌∷◌, ◌++◌, is_some, slice_get, codes}
 use Rattle.rn_xml.specs.Infoset.{Nodes}
 use Rattle.rn_xml.specs.XmlTags.{Scope, AreDistinct}
 use Rattle.rn_xml.specs.DocumentTrees.{AreChildren}
 use Rattle.rn_xml.specs.declared.document.XmlElement.{XmlElement}
 use Rattle.rn_xml.specs.declared.document.XmlDocument.{XmlDocument}
-use Rattle.rn_translate.specs.inside.Terms.{Term}
-use Rattle.rn_translate.specs.inside.SchemaElements.{value_of}
-use Rattle.rn_translate.specs.inside.Layouts.{Written, layout}
-use Rattle.rn_translate.specs.inside.Translation.{children}
+use Rattle.rn_translate.specs.Terms.{Term}
+use Rattle.rn_translate.specs.SchemaElements.{value_of}
+use Rattle.rn_translate.specs.Layouts.{Written, layout}
+use Rattle.rn_translate.specs.Translation.{children}
 use Rattle.rn_translate.specs.inside.Meanings.{known, layout_meant, sign_terms, terms_meant, uri_meant}
 use Rattle.rn_translate.specs.inside.Walks.{AreNested, IsOutside}
 use Rattle.rn_translate.specs.inside.ElementsMeant.{IsInScope, attributes_at, declared_at}

@@ -2,7 +2,7 @@
 use Rattle.std.specs.Prelude.{◌≡◌, List, Some}
 use Rattle.rn_translate.specs.declared.printing.Declared.{Declared}
 use Rattle.rn_translate.specs.declared.terms.Placed.{Placed}
-use Rattle.rn_translate.specs.inside.Terms.{Namespace, Term}
+use Rattle.rn_translate.specs.Terms.{Namespace, Term}
 use Rattle.rn_translate.specs.inside.Meanings.{known, terms_meant, uri_meant}
 use Rattle.rn_translate.specs.inside.NeededPrefixes.{AreBound, each_once, needed_libraries, needed_namespaces}
 use Rattle.rn_translate.specs.inside.UriTables.{IsTable}

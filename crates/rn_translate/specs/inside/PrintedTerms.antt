@@ -18,15 +18,12 @@ use Rattle.rn_translate.specs.declared.terms.Term.{Term}
 use Rattle.rn_translate.specs.declared.terms.Term.TheVariants as t
 use Rattle.rn_translate.specs.declared.uris.Uri.{Uri}
 use Rattle.rn_translate.specs.declared.uris.Uris.{Uris}
-use Rattle.rn_translate.specs.inside.DraftTokens.{identifier_token, literal_tokens, one_token, word_token}
+use Rattle.rn_translate.specs.TokenTexts.{identifier_token, literal_tokens, numbered_bytes, one_token, word_token}
 use Rattle.rn_translate.specs.inside.SignTokens.{sign_tokens}
 
 -- the number of the prefix of a URI; 0 where it has none
 abbrev pub number_of : Prefixes → Uri → ℕ
 number_of p u = unwrap_or (get nat_cmp p.numbers u.index) 0
-
-abbrev pub numbered_bytes : ℕ → ℕ → Text
-numbered_bytes letter number = encode_utf8 letter ++ decimal number
 
 -- the prefix of a namespace
 abbrev pub prefix_bytes : Declared → Uri → Text

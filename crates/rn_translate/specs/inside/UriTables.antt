@@ -7,12 +7,9 @@ use Rattle.std.specs.Ordering.{nat_cmp}
 use Rattle.rn_text.specs.Texts.{Text}
 use Rattle.rn_xml.specs.XmlTags.{xml_uri}
 use Rattle.rn_xml.specs.declared.document.XmlDocument.{XmlDocument}
+use Rattle.rn_translate.specs.SchemaTokens.{xsd_uri}
 use Rattle.rn_translate.specs.declared.uris.Uri.{Uri}
 use Rattle.rn_translate.specs.declared.uris.Uris.{Uris}
-
--- the library of XML Schema's datatypes (compact syntax, 2)
-abbrev pub xsd_uri : Text
-xsd_uri = codes "http://www.w3.org/2001/XMLSchema-datatypes"
 
 -- no namespace
 abbrev pub empty_uri : Uri

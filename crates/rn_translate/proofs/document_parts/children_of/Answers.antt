@@ -3,8 +3,8 @@ use Rattle.std.proofs.Common.{◌≡◌, ◌+◌, ◌<◌, ◌≤◌, ◌^◌, s
 use Rattle.std.specs.Prelude.{nat_lt, slice_get, ◌||◌, if◌then◌else◌}
 use Rattle.std.proofs.lemmas.Bool.Decides.{nat_tests}
 use Rattle.rn_xml.specs.DocumentTrees.{name_of}
-use Rattle.rn_translate.specs.inside.SchemaElements.{is_except_kind, is_foreign, kind_of}
-use Rattle.rn_translate.proofs.TreeSteps.{no_end_before}
+use Rattle.rn_translate.specs.SchemaElements.{is_except_kind, is_foreign, kind_of}
+use Rattle.rn_translate.proofs.Walking.TreeSteps.{no_end_before}
 use Rattle.rn_translate.proofs.ChildCounts.{Counted, all_counted, at_most_one, child_there, none_counted, none_left, one_counted}
 use Rattle.rn_translate.proofs.document_parts.children_of.Goals as goal
 

@@ -1,6 +1,6 @@
 -- White space is cut off the front, and then off the end.
 use Rattle.std.proofs.Common.{ap, ◌∙◌, rules}
-use Rattle.rn_translate.specs.inside.SchemaElements.{without_end}
+use Rattle.rn_translate.specs.SchemaElements.{without_end}
 use Rattle.rn_translate.proofs.TrimmedTexts.{end_trimmed_by, front_trimmed_by}
 use Rattle.rn_translate.proofs.document_parts.trimmed.Goals as goal
 

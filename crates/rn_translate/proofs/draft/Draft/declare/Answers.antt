@@ -3,7 +3,7 @@ use Rattle.std.proofs.Common.{◌++◌}
 use Rattle.std.specs.Prelude.{codes}
 use Rattle.std.proofs.lemmas.Result.{on_ok_weaker}
 use Rattle.rn_text.specs.declared.parts.Kind.TheVariants.{Symbol}
-use Rattle.rn_translate.specs.inside.DraftTokens.{one_token}
+use Rattle.rn_translate.specs.TokenTexts.{one_token}
 use Rattle.rn_translate.specs.inside.PrintedTerms.{uri_tokens}
 use Rattle.rn_translate.proofs.WrittenTokens.{writes_more, writes_then_none}
 use Rattle.rn_translate.proofs.draft.Draft.declare.Goals as goal

@@ -5,7 +5,8 @@ use Rattle.std.proofs.lemmas.Result.{on_ok_weaker}
 use Rattle.rn_text.specs.declared.keywords.Keyword.TheVariants as w
 use Rattle.rn_text.specs.declared.parts.Kind.TheVariants.{Keyword}
 use Rattle.rn_text.specs.Keywords.{spelling}
-use Rattle.rn_translate.specs.inside.DraftTokens.{Writes, one_token}
+use Rattle.rn_translate.specs.inside.DraftTokens.{Writes}
+use Rattle.rn_translate.specs.TokenTexts.{one_token}
 use Rattle.rn_translate.specs.inside.PrintedTerms.{bound_tokens, default_tokens}
 use Rattle.rn_translate.proofs.WrittenTokens.{writes_more, writes_nothing}
 use Rattle.rn_translate.proofs.draft.Draft.declare_default.Goals as goal

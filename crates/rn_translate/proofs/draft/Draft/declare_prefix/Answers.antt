@@ -3,8 +3,10 @@ use Rattle.std.proofs.Common.{◌∙◌, ◌++◌, subst}
 use Rattle.std.proofs.lemmas.Result.{on_ok_weaker}
 use Rattle.rn_text.specs.declared.parts.Kind.TheVariants.{Keyword}
 use Rattle.rn_text.specs.Keywords.{spelling}
-use Rattle.rn_translate.specs.inside.DraftTokens.{Writes, one_token, word_token}
-use Rattle.rn_translate.specs.inside.PrintedTerms.{bound_tokens, numbered_bytes}
+use Rattle.rn_translate.specs.inside.DraftTokens.{Writes}
+use Rattle.rn_translate.specs.TokenTexts.{one_token, word_token}
+use Rattle.rn_translate.specs.inside.PrintedTerms.{bound_tokens}
+use Rattle.rn_translate.specs.TokenTexts.{numbered_bytes}
 use Rattle.rn_translate.proofs.WrittenTokens.{writes_more}
 use Rattle.rn_translate.proofs.draft.Draft.declare_prefix.Goals as goal
 

@@ -3,7 +3,7 @@ use Rattle.std.proofs.Common.{◌∙◌, ◌<◌, ◌++◌, false, sym, subst, l
 use Rattle.std.specs.Prelude.{codes}
 use Rattle.rn_text.specs.declared.parts.Kind.TheVariants.{AnyOf}
 use Rattle.rn_translate.specs.Cuts.{HasParts, IsSpelledAs}
-use Rattle.rn_translate.specs.inside.DraftTokens.{one_token}
+use Rattle.rn_translate.specs.TokenTexts.{one_token}
 use Rattle.rn_translate.proofs.CutTokens.{any_of_cut, one_part}
 use Rattle.rn_translate.proofs.draft.Draft.put_any_of.Goals as goal
 

@@ -4,7 +4,8 @@ use Rattle.std.specs.Prelude.{OnOk}
 use Rattle.std.specs.Str.{chars}
 use Rattle.rn_text.specs.Characters.{is_ncname}
 use Rattle.rn_translate.specs.Spelled.{Spelled}
-use Rattle.rn_translate.specs.inside.DraftTokens.{Writes, word_token}
+use Rattle.rn_translate.specs.inside.DraftTokens.{Writes}
+use Rattle.rn_translate.specs.TokenTexts.{word_token}
 use Rattle.rn_translate.proofs.CutTokens.{keyword_name, keyword_token_is}
 use Rattle.rn_translate.proofs.draft.Draft.put_keyword.Goals as goal
 

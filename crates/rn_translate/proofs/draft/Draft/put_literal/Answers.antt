@@ -4,7 +4,7 @@ use Rattle.std.specs.List.{list_all}
 use Rattle.std.specs.Str.{chars}
 use Rattle.rn_text.specs.Characters.{is_xml_char}
 use Rattle.rn_translate.specs.Cuts.{HasParts, IsSpelledAs}
-use Rattle.rn_translate.specs.inside.DraftTokens.{literal_tokens}
+use Rattle.rn_translate.specs.TokenTexts.{literal_tokens}
 use Rattle.rn_translate.proofs.CutLiterals.{literal_cut}
 use Rattle.rn_translate.proofs.CutTokens.{one_part}
 use Rattle.rn_translate.proofs.WrittenTokens.{literal_some}

@@ -2,7 +2,7 @@
 use Rattle.std.proofs.Common.{◌∙◌, ◌<◌, ◌∷◌, ◌++◌, true, sym, subst, length, length-append, arith}
 use Rattle.rn_text.specs.declared.parts.Kind.TheVariants.{Prefixed}
 use Rattle.rn_translate.specs.Cuts.{HasParts, IsSpelledAs}
-use Rattle.rn_translate.specs.inside.DraftTokens.{one_token}
+use Rattle.rn_translate.specs.TokenTexts.{one_token}
 use Rattle.rn_translate.proofs.CutTokens.{prefixed_cut, one_part}
 use Rattle.rn_translate.proofs.draft.Draft.put_prefixed.Goals as goal
 

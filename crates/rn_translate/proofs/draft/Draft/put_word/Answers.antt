@@ -1,7 +1,7 @@
 -- A name is one token.
 use Rattle.rn_translate.proofs.CutTokens.{one_part, word_cut}
 use Rattle.rn_translate.proofs.WrittenTokens.{name_some}
-use Rattle.rn_translate.specs.inside.DraftTokens.{word_token}
+use Rattle.rn_translate.specs.TokenTexts.{word_token}
 use Rattle.rn_translate.proofs.draft.Draft.put_word.Goals as goal
 
 pub put_token-requires : goal.put_token-requires

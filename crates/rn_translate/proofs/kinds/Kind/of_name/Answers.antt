@@ -4,7 +4,7 @@ use Rattle.std.specs.Prelude.{option_map, bytes_eq}
 use Rattle.std.specs.List.{find}
 use Rattle.std.proofs.lemmas.Iterator.{YieldsList-from_slice}
 use Rattle.std.proofs.lemmas.Iterator.Search.{find_from_yields_List}
-use Rattle.rn_translate.specs.inside.SchemaElements.{kind_name, kinds}
+use Rattle.rn_translate.specs.SchemaElements.{kind_name, kinds}
 use Rattle.rn_translate.specs.declared.kinds.Kind.{Kind}
 use Rattle.rn_translate.proofs.KindNames.{found_kind}
 use Rattle.rn_translate.proofs.kinds.Kind.of_name.Goals as goal

@@ -1,6 +1,6 @@
 -- What separates the child from the others, and its terms.
 use Rattle.std.proofs.Common.{ap, ◌∙◌}
-use Rattle.rn_translate.specs.inside.Translation.{before_child}
+use Rattle.rn_translate.specs.Translation.{before_child}
 use Rattle.rn_translate.proofs.AddedTerms.{adds_equal}
 use Rattle.rn_translate.proofs.NextElements.{next_after}
 use Rattle.rn_translate.proofs.ScopedTerms.{scoped_more}

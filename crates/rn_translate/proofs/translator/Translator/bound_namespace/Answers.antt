@@ -3,7 +3,7 @@ use Rattle.std.proofs.Common.{◌≡◌, sym, ap, ◌∙◌, Some, None}
 use Rattle.std.specs.Prelude.{slice_get}
 use Rattle.rn_text.specs.Texts.{Text}
 use Rattle.rn_xml.specs.PrefixScopes.{around, innermost}
-use Rattle.rn_translate.specs.inside.Terms.{uri}
+use Rattle.rn_translate.specs.Terms.{uri}
 use Rattle.rn_translate.specs.inside.Meanings.{uri_meant}
 use Rattle.rn_translate.proofs.NamesInScope.{declared_means, given_at, given_meant}
 use Rattle.rn_translate.proofs.UriMeanings.{empty_meant}

@@ -1,5 +1,5 @@
 -- What comes behind the children.
-use Rattle.std.proofs.Common.{◌≡◌, sym, ap, ◌∙◌, subst, Some, ◌++◌}
+use Rattle.std.proofs.Common.{◌≡◌, sym, ap, ◌∙◌, subst, ◌++◌}
 use Rattle.std.specs.Prelude.{slice_get}
 use Rattle.rn_translate.specs.inside.ElementsMeant.{IsInScope, declared_at}
 use Rattle.rn_translate.specs.declared.translator.Translator.{Translator}

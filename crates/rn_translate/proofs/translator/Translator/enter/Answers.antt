@@ -1,13 +1,11 @@
 -- A foreign element is passed, or the child begins.
-use Rattle.std.proofs.Common.{◌≡◌, ℕ, true, false, ◌<◌, ◌≤◌, ◌+◌, refl, sym, ap, ◌∙◌, subst, Some, List, ◌++◌, ◌∷◌, []}
-use Rattle.std.specs.Prelude.{slice_get}
-use Rattle.rn_xml.specs.Infoset.{Nodes}
+use Rattle.std.proofs.Common.{◌≡◌, true, ◌+◌, sym, ap, refl, ◌∙◌, subst, Some, ◌++◌, ◌∷◌, []}
 use Rattle.rn_xml.specs.DocumentTrees.{AreChildren, name_of}
 use Rattle.rn_xml.specs.declared.document.XmlDocument.{XmlDocument}
-use Rattle.rn_translate.specs.inside.SchemaElements.{holds_text, is_foreign, kind_of}
+use Rattle.rn_translate.specs.SchemaElements.{is_foreign, kind_of}
 use Rattle.rn_translate.specs.inside.OpenLevels.{IsWalked}
-use Rattle.rn_translate.proofs.OpenSteps.{foreign_passed, same_document}
-use Rattle.rn_translate.proofs.ChildSteps.{child_begun}
+use Rattle.rn_translate.proofs.Walking.OpenSteps.{foreign_passed, same_document}
+use Rattle.rn_translate.proofs.Walking.ChildSteps.{child_begun}
 use Rattle.rn_translate.proofs.translator.Translator.enter.Goals as goal
 
 pub returns-then-is_foreign-clause-walked : goal.returns-then-is_foreign-clause-walked
@@ -17,9 +15,9 @@ returns-then-is_foreign-clause-walked c = λ start whole w passed within there.
     let kind : is_foreign (kind_of (name_of d c.args.child.now.name)) ≡ true =
     ap (λ (x : XmlDocument). is_foreign (kind_of (name_of x c.args.child.now.name))) (sym (same_document start a w.same)) ∙ ap is_foreign c.in_ok-kind.ensures
     ∙ sym c.is_foreign.ensures ∙ c.if-is_foreign.true in
-    subst (λ ls. IsWalked start c.pass_foreign.new.self ls c.behind-behind.result whole) (sym c.in_ok-push.ensures.items)
-    (foreign_passed start a c.pass_foreign.new.self c.args.levels.now.items c.args.around c.args.index c.behind-behind.result whole c.args.child.now w passed within there kind
-    (c.behind-behind.ensures.end (w.sound.nested c.args.index c.args.child.now there)) c.pass_foreign.ensures.same c.pass_foreign.ensures.passed)
+    subst (λ ls. IsWalked start (record a { text = c.behind_texts-self.result }) ls c.behind-behind.result whole) (sym c.in_ok-push.ensures.items)
+    (foreign_passed start a (record a { text = c.behind_texts-self.result }) c.args.levels.now.items c.args.around c.args.index c.behind-behind.result whole c.args.child.now w passed within there kind
+    (c.behind-behind.ensures.end (w.sound.nested c.args.index c.args.child.now there)) refl c.behind_texts-self.ensures)
 
 pub returns-clause-walked : goal.returns-clause-walked
 returns-clause-walked c = λ start whole w passed within there.

@@ -4,8 +4,8 @@ use Rattle.std.specs.Prelude.{Option, string_bytes}
 use Rattle.rn_text.specs.Texts.{Text}
 use Rattle.rn_xml.specs.TableRows.{rows_of}
 use Rattle.rn_xml.specs.declared.document.XmlAttribute.{XmlAttribute}
-use Rattle.rn_translate.specs.inside.Terms.{uri}
-use Rattle.rn_translate.specs.inside.SchemaElements.{nearest, value_of}
+use Rattle.rn_translate.specs.Terms.{uri}
+use Rattle.rn_translate.specs.SchemaElements.{nearest, value_of}
 use Rattle.rn_translate.specs.inside.ElementsMeant.{attributes_at}
 use Rattle.rn_translate.specs.inside.UriTables.{HasUri, gives_uri}
 use Rattle.rn_translate.proofs.AttributeRows.{all_rows, value_holds}

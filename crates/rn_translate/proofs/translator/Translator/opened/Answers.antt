@@ -1,8 +1,8 @@
 -- The element that opens means what comes next.
 use Rattle.std.proofs.Common.{◌≡◌, refl, sym, ap, ◌∙◌, subst, Some, None}
 use Rattle.std.specs.Prelude.{Option, option_map, is_some, codes, ◌++◌}
-use Rattle.rn_translate.specs.inside.SchemaElements.{bare_in, nearest, value_of}
-use Rattle.rn_translate.specs.inside.Layouts.{Written}
+use Rattle.rn_translate.specs.SchemaElements.{bare_in, nearest, value_of}
+use Rattle.rn_translate.specs.Layouts.{Written}
 use Rattle.rn_translate.specs.inside.Meanings.{uri_meant}
 use Rattle.rn_translate.specs.inside.ElementsMeant.{IsInScope, IsMeant, KnowsUris, attributes_at, declared_at}
 use Rattle.rn_xml.specs.declared.document.XmlElement.{XmlElement}

@@ -1,5 +1,5 @@
 -- The texts that are passed are the element's, and come before the next element in it.
-use Rattle.std.proofs.Common.{◌≡◌, ℕ, ◌+◌, ◌<◌, ◌≤◌, true, false, refl, sym, ap, ◌∙◌, subst, arith, Some, None}
+use Rattle.std.proofs.Common.{◌≡◌, ◌+◌, ◌<◌, true, false, refl, sym, ap, ◌∙◌, subst}
 use Rattle.std.specs.Prelude.{slice_get, IfSome, nat_lt}
 use Rattle.std.specs.Option.{option_map_or}
 use Rattle.std.proofs.lemmas.Option.{none-some, same_Some}
@@ -7,7 +7,7 @@ use Rattle.rn_xml.specs.declared.document.XmlElement.{XmlElement}
 use Rattle.rn_xml.specs.declared.document.XmlText.{XmlText}
 use Rattle.rn_xml.specs.declared.document.XmlDocument.{XmlDocument}
 use Rattle.rn_translate.specs.declared.translator.Translator.{Translator}
-use Rattle.rn_translate.proofs.TreeTexts.{before_element, none_skipped, not_before, one_skipped}
+use Rattle.rn_translate.proofs.Walking.TreeTexts.{before_element, none_skipped, not_before, one_skipped}
 use Rattle.rn_translate.proofs.translator.Translator.pass_texts.Goals as goal
 use Rattle.rn_translate.proofs.translator.Translator.pass_texts.Goals.{in-Some+then-text-open, then-text-open-via-then-text-open, then-text-open-via-else-text-open+then-not-comes_before, in_default}
 

@@ -2,7 +2,7 @@
 use Rattle.std.proofs.Common.{◌∷◌, [], ap}
 use Rattle.std.specs.Prelude.{Option}
 use Rattle.std.specs.Option.{option_map}
-use Rattle.rn_translate.specs.inside.Terms.{Namespace, datatype}
+use Rattle.rn_translate.specs.Terms.{Namespace, datatype}
 use Rattle.rn_translate.proofs.translator.Translator.put_datatype.Goals as goal
 
 pub returns : goal.returns

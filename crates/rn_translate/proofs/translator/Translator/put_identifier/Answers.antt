@@ -1,6 +1,6 @@
 -- A name is one term.
 use Rattle.std.proofs.Common.{◌∷◌, [], refl}
-use Rattle.rn_translate.specs.inside.Terms.{identifier}
+use Rattle.rn_translate.specs.Terms.{identifier}
 use Rattle.rn_translate.proofs.translator.Translator.put_identifier.Goals as goal
 
 pub returns : goal.returns

@@ -2,8 +2,8 @@
 use Rattle.std.proofs.Common.{◌∷◌, List, [], refl, sym, ap, ◌∙◌}
 use Rattle.std.specs.Prelude.{codes, not, Option, option_map}
 use Rattle.rn_text.specs.declared.keywords.Keyword.TheVariants as w
-use Rattle.rn_translate.specs.inside.Terms.{Namespace, Term, keyword, prefix, symbol}
-use Rattle.rn_translate.specs.inside.Layouts.{if_so}
+use Rattle.rn_translate.specs.Terms.{Namespace, Term, keyword, prefix, symbol}
+use Rattle.rn_translate.specs.Layouts.{if_so}
 use Rattle.rn_translate.specs.inside.Meanings.{uri_meant}
 use Rattle.rn_translate.specs.declared.translator.Translator.{Translator}
 use Rattle.rn_translate.proofs.AddedTerms.{adds_none, adds_equal, adds_more, ok_equal, ok_more}

@@ -1,8 +1,8 @@
 -- The keyword, the file, and the namespace that it inherits.
 use Rattle.std.proofs.Common.{◌∷◌, [], refl, sym, ap, ◌∙◌, Some}
 use Rattle.std.specs.Prelude.{codes, unwrap_or}
-use Rattle.rn_translate.specs.inside.Terms.{keyword, literal}
-use Rattle.rn_translate.specs.inside.SchemaElements.{value_of}
+use Rattle.rn_translate.specs.Terms.{keyword, literal}
+use Rattle.rn_translate.specs.SchemaElements.{value_of}
 use Rattle.rn_translate.proofs.AddedTerms.{adds_more, ok_more}
 use Rattle.rn_translate.proofs.MeantElements.{meant_after}
 use Rattle.rn_translate.proofs.translator.Translator.put_link.Goals as goal

@@ -3,9 +3,9 @@ use Rattle.std.proofs.Common.{◌≡◌, ◌∷◌, [], ap, ◌∙◌, subst, Bo
 use Rattle.std.specs.Prelude.{OnOk}
 use Rattle.std.specs.Option.{option_map_or}
 use Rattle.rn_text.specs.Texts.{Text}
-use Rattle.rn_translate.specs.inside.Terms.{Namespace, uri}
-use Rattle.rn_translate.specs.inside.SchemaElements.{parted, prefix_and_local, prefix_uri, qualified}
-use Rattle.rn_translate.specs.inside.Layouts.{name_term}
+use Rattle.rn_translate.specs.Terms.{Namespace, uri}
+use Rattle.rn_translate.specs.SchemaElements.{parted, prefix_and_local, prefix_uri, qualified}
+use Rattle.rn_translate.specs.Layouts.{name_term}
 use Rattle.rn_translate.specs.inside.Meanings.{Adds}
 use Rattle.rn_translate.proofs.NamesInScope.{parted_so}
 use Rattle.rn_translate.proofs.translator.Translator.put_name.Goals as goal

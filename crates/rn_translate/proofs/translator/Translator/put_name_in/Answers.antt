@@ -2,8 +2,8 @@
 use Rattle.std.proofs.Common.{◌∷◌, [], sym, ap, ◌∙◌, Some}
 use Rattle.std.specs.Prelude.{Option}
 use Rattle.std.specs.Option.{option_map}
-use Rattle.rn_translate.specs.inside.Terms.{Namespace, Term, prefixed}
-use Rattle.rn_translate.specs.inside.Layouts.{name_term}
+use Rattle.rn_translate.specs.Terms.{Namespace, Term, prefixed}
+use Rattle.rn_translate.specs.Layouts.{name_term}
 use Rattle.rn_translate.proofs.NamesInScope.{name_other}
 use Rattle.rn_translate.proofs.UriMeanings.{same_meant}
 use Rattle.rn_translate.proofs.translator.Translator.put_name_in.Goals as goal

@@ -1,5 +1,5 @@
 -- A parenthesis, where operands need it.
-use Rattle.rn_translate.specs.inside.Terms.{open_parenthesis}
+use Rattle.rn_translate.specs.Terms.{open_parenthesis}
 use Rattle.rn_translate.proofs.AddedTerms.{adds_if}
 use Rattle.rn_translate.proofs.translator.Translator.put_operands.Goals as goal
 

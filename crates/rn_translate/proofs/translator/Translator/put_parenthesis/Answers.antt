@@ -1,6 +1,6 @@
 -- A parenthesis, where one is needed.
 use Rattle.std.proofs.Common.{true, refl, sym}
-use Rattle.rn_translate.specs.inside.Terms.{open_parenthesis}
+use Rattle.rn_translate.specs.Terms.{open_parenthesis}
 use Rattle.rn_translate.proofs.AddedTerms.{adds_if}
 use Rattle.rn_translate.proofs.translator.Translator.put_parenthesis.Goals as goal
 

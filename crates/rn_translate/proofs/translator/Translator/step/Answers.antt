@@ -1,13 +1,11 @@
 -- The innermost level ends, or its next child begins.
-use Rattle.std.proofs.Common.{◌≡◌, ◌<◌, ◌≤◌, sym, ap, ◌∙◌, subst, arith, Some, None, List, ◌++◌, ◌∷◌, []}
+use Rattle.std.proofs.Common.{◌≡◌, sym, ap, ◌∙◌, subst, arith, None}
 use Rattle.std.specs.Prelude.{if◌then◌else◌, slice_get, nat_lt}
 use Rattle.std.proofs.lemmas.Bool.Decides.{nat_tests}
 use Rattle.rn_xml.specs.declared.document.XmlDocument.{XmlDocument}
 use Rattle.rn_translate.specs.inside.Walks.{AreTextsPassed}
-use Rattle.rn_translate.specs.inside.OpenLevels.{IsWalked}
-use Rattle.rn_translate.specs.declared.translator.Translator.{Translator}
 use Rattle.rn_translate.proofs.ChildCounts.{child_there}
-use Rattle.rn_translate.proofs.OpenSteps.{innermost, level_ended, none_left_of, same_document, texts_walked}
+use Rattle.rn_translate.proofs.Walking.OpenSteps.{level_ended, none_left_of, same_document, texts_walked}
 use Rattle.rn_translate.proofs.translator.Translator.step.Goals as goal
 
 pub returns-in_default-clause-walked : goal.returns-in_default-clause-walked

@@ -2,9 +2,9 @@
 use Rattle.std.proofs.Common.{◌≡◌, [], sym, ap, ◌∙◌, refl, Some}
 use Rattle.std.specs.Prelude.{codes, is_some, if◌then◌else◌, Option}
 use Rattle.rn_text.specs.Texts.{Text}
-use Rattle.rn_translate.specs.inside.Terms.{uri}
-use Rattle.rn_translate.specs.inside.SchemaElements.{value_of}
-use Rattle.rn_translate.specs.inside.Layouts.{Written, unprefixed_in}
+use Rattle.rn_translate.specs.Terms.{uri}
+use Rattle.rn_translate.specs.SchemaElements.{value_of}
+use Rattle.rn_translate.specs.Layouts.{Written, unprefixed_in}
 use Rattle.rn_translate.specs.declared.kinds.Kind.{Kind}
 use Rattle.rn_translate.specs.declared.kinds.Kind.TheVariants as k
 use Rattle.rn_translate.proofs.UriMeanings.{empty_meant}

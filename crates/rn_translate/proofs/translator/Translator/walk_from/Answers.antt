@@ -1,8 +1,8 @@
 -- The step keeps what is walked, until no level is left.
-use Rattle.std.proofs.Common.{◌≡◌, List, [], ◌∷◌, ◌++◌, refl, sym, ap, ◌∙◌, subst, length, Some, None}
+use Rattle.std.proofs.Common.{[], ◌∷◌, ◌++◌, sym, ap, ◌∙◌, subst}
 use Rattle.std.proofs.lemmas.List.{nil_from_length}
 use Rattle.rn_translate.specs.inside.OpenLevels.{IsWalked}
-use Rattle.rn_translate.proofs.OpenSteps.{whole_walked}
+use Rattle.rn_translate.proofs.Walking.OpenSteps.{whole_walked}
 use Rattle.rn_translate.proofs.translator.Translator.walk_from.Goals as goal
 
 pub levels-init : goal.levels-init

@@ -1,7 +1,7 @@
 -- Each step passes an element, or ends one. The terms so far and those that are left are the whole.
 use Rattle.std.proofs.Common.{◌≡◌, ◌+◌, ◌-◌, ◌*◌, List, [], ◌∷◌}
 use Rattle.std.specs.Prelude.{vec_len}
-use Rattle.rn_translate.specs.inside.Terms.{Term}
+use Rattle.rn_translate.specs.Terms.{Term}
 use Rattle.rn_translate.specs.inside.OpenLevels.{IsWalked}
 use Rattle.rn_translate.specs.declared.translator.Translator.{Translator}
 use Rattle.rn_translate.proofs.translator.Translator.walk_from.Given as goal

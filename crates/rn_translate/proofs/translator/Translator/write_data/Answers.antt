@@ -1,8 +1,8 @@
 -- A parenthesis, where the except needs it, and the datatype.
 use Rattle.std.proofs.Common.{◌∷◌, [], sym, ap, ◌∙◌}
 use Rattle.std.specs.Prelude.{codes, unwrap_or}
-use Rattle.rn_translate.specs.inside.Terms.{datatype, open_parenthesis}
-use Rattle.rn_translate.specs.inside.SchemaElements.{trimmed, value_of}
+use Rattle.rn_translate.specs.Terms.{datatype, open_parenthesis}
+use Rattle.rn_translate.specs.SchemaElements.{trimmed, value_of}
 use Rattle.rn_translate.proofs.AddedTerms.{adds_if, adds_equal, adds_more}
 use Rattle.rn_translate.proofs.MeantElements.{closed_meant, meant_after}
 use Rattle.rn_translate.proofs.translator.Translator.write_data.Goals as goal

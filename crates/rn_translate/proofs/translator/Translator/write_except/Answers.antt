@@ -2,8 +2,8 @@
 use Rattle.std.proofs.Common.{◌∷◌, []}
 use Rattle.std.specs.Prelude.{codes}
 use Rattle.std.proofs.lemmas.Result.{on_ok_weaker}
-use Rattle.rn_translate.specs.inside.Terms.{symbol}
-use Rattle.rn_translate.specs.inside.Layouts.{begins_operands}
+use Rattle.rn_translate.specs.Terms.{symbol}
+use Rattle.rn_translate.specs.Layouts.{begins_operands}
 use Rattle.rn_translate.specs.declared.standing.Operator.TheVariants as o
 use Rattle.rn_translate.specs.declared.standing.Standing.TheVariants as s
 use Rattle.rn_translate.proofs.AddedTerms.{adds_more}

@@ -2,9 +2,9 @@
 use Rattle.std.proofs.Common.{◌∷◌, [], ◌++◌, refl, sym, ap, ◌∙◌}
 use Rattle.std.specs.Prelude.{codes, Option, option_map}
 use Rattle.rn_text.specs.declared.keywords.Keyword.TheVariants as w
-use Rattle.rn_translate.specs.inside.Terms.{Namespace, any_of, keyword, identifier, symbol, open_parenthesis, close_brace, close_parenthesis}
-use Rattle.rn_translate.specs.inside.SchemaElements.{holds_text, name_in}
-use Rattle.rn_translate.specs.inside.Layouts.{around, begins_operands, has_name, if_so, operands, then_behind}
+use Rattle.rn_translate.specs.Terms.{Namespace, any_of, keyword, identifier, symbol, open_parenthesis, close_brace, close_parenthesis}
+use Rattle.rn_translate.specs.SchemaElements.{holds_text, name_in}
+use Rattle.rn_translate.specs.Layouts.{around, begins_operands, has_name, if_so, operands, then_behind}
 use Rattle.rn_translate.specs.declared.kinds.Kind.TheVariants as k
 use Rattle.rn_translate.specs.declared.signs.Sign.TheVariants as g
 use Rattle.rn_translate.specs.declared.standing.Operator.TheVariants as o

@@ -3,8 +3,8 @@ use Rattle.std.proofs.Common.{◌≡◌, ◌∷◌, [], true, refl, sym, ap, ◌
 use Rattle.std.specs.Prelude.{not, nat_le}
 use Rattle.std.proofs.lemmas.Bool.{false≢true}
 use Rattle.rn_text.specs.declared.keywords.Keyword.TheVariants as w
-use Rattle.rn_translate.specs.inside.Terms.{keyword, open_brace, close_brace}
-use Rattle.rn_translate.specs.inside.Layouts.{around, begins, if_so, is_of_grammar, layout, operands}
+use Rattle.rn_translate.specs.Terms.{keyword, open_brace, close_brace}
+use Rattle.rn_translate.specs.Layouts.{around, begins, if_so, is_of_grammar, layout, operands}
 use Rattle.rn_translate.specs.declared.kinds.Kind.{Kind}
 use Rattle.rn_translate.specs.declared.kinds.Kind.TheVariants as k
 use Rattle.rn_translate.specs.declared.standing.Operator.TheVariants as o

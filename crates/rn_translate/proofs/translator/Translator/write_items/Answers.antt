@@ -1,6 +1,6 @@
 -- A keyword and a brace.
 use Rattle.std.proofs.Common.{◌∷◌, [], refl}
-use Rattle.rn_translate.specs.inside.Terms.{keyword, open_brace}
+use Rattle.rn_translate.specs.Terms.{keyword, open_brace}
 use Rattle.rn_translate.proofs.AddedTerms.{adds_more}
 use Rattle.rn_translate.proofs.translator.Translator.write_items.Goals as goal
 

@@ -1,6 +1,6 @@
 -- The name that the text is.
 use Rattle.std.proofs.Common.{sym, ap, ◌∙◌}
-use Rattle.rn_translate.specs.inside.Layouts.{name_terms}
+use Rattle.rn_translate.specs.Layouts.{name_terms}
 use Rattle.rn_translate.proofs.AddedTerms.{adds_equal}
 use Rattle.rn_translate.proofs.translator.Translator.write_name.Goals as goal
 

@@ -2,9 +2,9 @@
 use Rattle.std.proofs.Common.{◌≡◌, ℕ, ◌-◌, ◌∷◌, [], Bool, true, false, refl, sym, ap, ◌∙◌, Some, None}
 use Rattle.std.specs.Prelude.{◌&&◌, not, if◌then◌else◌, Option, is_some, nat_le, codes}
 use Rattle.rn_text.specs.Texts.{Text}
-use Rattle.rn_translate.specs.inside.Terms.{keyword}
-use Rattle.rn_translate.specs.inside.SchemaElements.{value_of}
-use Rattle.rn_translate.specs.inside.Layouts.{Written, Layout, closing, has_name, named, opening, operands, operator_term, then_behind}
+use Rattle.rn_translate.specs.Terms.{keyword}
+use Rattle.rn_translate.specs.SchemaElements.{value_of}
+use Rattle.rn_translate.specs.Layouts.{Written, Layout, closing, has_name, named, opening, operands, operator_term, then_behind}
 use Rattle.rn_translate.specs.declared.standing.Operator.TheVariants as o
 use Rattle.rn_translate.specs.declared.standing.Standing.TheVariants as s
 use Rattle.rn_translate.proofs.AddedTerms.{adds_more}

@@ -1,9 +1,9 @@
 -- The brace of the first, the name, the text, and the brace of the last.
 use Rattle.std.proofs.Common.{◌∷◌, [], sym, ap, ◌∙◌, Some, append_assoc}
 use Rattle.std.specs.Prelude.{codes, unwrap_or}
-use Rattle.rn_translate.specs.inside.Terms.{literal, local, open_brace, close_brace}
-use Rattle.rn_translate.specs.inside.SchemaElements.{trimmed, value_of}
-use Rattle.rn_translate.specs.inside.Layouts.{if_so}
+use Rattle.rn_translate.specs.Terms.{literal, local, open_brace, close_brace}
+use Rattle.rn_translate.specs.SchemaElements.{trimmed, value_of}
+use Rattle.rn_translate.specs.Layouts.{if_so}
 use Rattle.rn_translate.proofs.AddedTerms.{adds_equal, adds_more}
 use Rattle.rn_translate.proofs.MeantElements.{meant_after}
 use Rattle.rn_translate.proofs.translator.Translator.write_param.Goals as goal

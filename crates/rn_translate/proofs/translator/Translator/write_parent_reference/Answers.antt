@@ -2,8 +2,8 @@
 use Rattle.std.proofs.Common.{◌∷◌, [], refl, ap}
 use Rattle.std.specs.Prelude.{codes}
 use Rattle.rn_text.specs.declared.keywords.Keyword.TheVariants as w
-use Rattle.rn_translate.specs.inside.Terms.{keyword, identifier}
-use Rattle.rn_translate.specs.inside.SchemaElements.{name_in}
+use Rattle.rn_translate.specs.Terms.{keyword, identifier}
+use Rattle.rn_translate.specs.SchemaElements.{name_in}
 use Rattle.rn_translate.specs.inside.ElementsMeant.{attributes_at}
 use Rattle.rn_translate.specs.declared.translator.Translator.{Translator}
 use Rattle.rn_translate.proofs.AddedTerms.{ok_equal, ok_more}

@@ -1,7 +1,7 @@
 -- The name of the definition.
 use Rattle.std.proofs.Common.{◌∷◌, [], ap, ◌∙◌}
-use Rattle.rn_translate.specs.inside.Terms.{identifier}
-use Rattle.rn_translate.specs.inside.SchemaElements.{trimmed}
+use Rattle.rn_translate.specs.Terms.{identifier}
+use Rattle.rn_translate.specs.SchemaElements.{trimmed}
 use Rattle.rn_translate.proofs.AddedTerms.{adds_equal}
 use Rattle.rn_translate.proofs.translator.Translator.write_reference.Goals as goal
 

@@ -1,6 +1,6 @@
 -- A parenthesis where the whole needs it, and one where several children do.
-use Rattle.rn_translate.specs.inside.Terms.{open_parenthesis}
-use Rattle.rn_translate.specs.inside.Layouts.{begins_operands, if_so, is_tight}
+use Rattle.rn_translate.specs.Terms.{open_parenthesis}
+use Rattle.rn_translate.specs.Layouts.{begins_operands, if_so, is_tight}
 use Rattle.rn_translate.specs.declared.standing.Operator.TheVariants as o
 use Rattle.rn_translate.specs.declared.standing.Standing.TheVariants as s
 use Rattle.rn_translate.proofs.AddedTerms.{adds_if, adds_more}

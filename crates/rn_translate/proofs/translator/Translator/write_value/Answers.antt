@@ -1,6 +1,6 @@
 -- The datatype, and the text.
 use Rattle.std.proofs.Common.{◌∷◌, [], sym, ap, ◌∙◌, Some}
-use Rattle.rn_translate.specs.inside.Terms.{literal}
+use Rattle.rn_translate.specs.Terms.{literal}
 use Rattle.rn_translate.proofs.AddedTerms.{adds_more}
 use Rattle.rn_translate.proofs.MeantElements.{meant_after}
 use Rattle.rn_translate.proofs.translator.Translator.write_value.Goals as goal

@@ -3,7 +3,7 @@ use Rattle.std.proofs.Common.{◌≡◌, ◌<◌, ◌≤◌, length, get_or, sym
 use Rattle.std.specs.Prelude.{string_bytes}
 use Rattle.rn_text.specs.Texts.{Text}
 use Rattle.std.proofs.lemmas.List.{take_all}
-use Rattle.rn_translate.specs.inside.Terms.{uri}
+use Rattle.rn_translate.specs.Terms.{uri}
 use Rattle.rn_translate.specs.inside.UriTables.{HasUri}
 use Rattle.rn_translate.proofs.KnownNamespaces.{AreKnown, each_known, known_more}
 use Rattle.rn_translate.proofs.uris.Uris.namespaces.Goals as goal

@@ -1,12 +1,12 @@
 -- The texts of an element and of those in it, among the texts of a document.
 use Rattle.std.proofs.Common.{◌≡◌, ℕ, ◌+◌, ◌<◌, ◌≤◌, sym, ap, ◌∙◌, subst, arith, ⊎_elim, true≢false, refl, Some, None, true, false}
-use Rattle.std.specs.Prelude.{◌≢◌, ◌==◌, Bool, Option, IfSome, slice_get, nat_lt}
+use Rattle.std.specs.Prelude.{◌≢◌, ◌==◌, Option, IfSome, slice_get, nat_lt}
 use Rattle.std.specs.Option.{option_map_or}
-use Rattle.std.proofs.lemmas.Option.{none-some, same_Some}
+use Rattle.std.proofs.lemmas.Option.{same_Some}
 use Rattle.std.proofs.lemmas.Bool.{cases_Bool}
 use Rattle.std.proofs.lemmas.Bool.Decides.{nat_tests}
 use Rattle.rn_xml.specs.Infoset.{Nodes, no_nodes, more_nodes}
-use Rattle.rn_xml.specs.DocumentTrees.{AreChildren, ComesBeforeElement, ComesBeforeText}
+use Rattle.rn_xml.specs.DocumentTrees.{AreChildren, ComesBeforeElement}
 use Rattle.rn_xml.specs.declared.document.XmlElement.{XmlElement}
 use Rattle.rn_xml.specs.declared.document.XmlText.{XmlText}
 use Rattle.rn_xml.specs.declared.document.XmlDocument.{XmlDocument}

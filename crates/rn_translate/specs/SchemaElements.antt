@@ -4,7 +4,7 @@ use Rattle.std.specs.List.{after_first, before_first, list_all, position_or_len}
 use Rattle.rn_text.specs.Texts.{Text, is_white}
 use Rattle.rn_xml.specs.Infoset.{Name, Attribute, Binding, Node, element, characters, Nodes, no_nodes, more_nodes}
 use Rattle.rn_xml.specs.XmlTags.{Scope, uri_in, xml_uri}
-use Rattle.rn_translate.specs.inside.Terms.{Namespace, uri}
+use Rattle.rn_translate.specs.Terms.{Namespace, uri}
 use Rattle.rn_translate.specs.declared.kinds.Kind.{Kind}
 use Rattle.rn_translate.specs.declared.kinds.Kind.TheVariants as k
 

@@ -5,8 +5,8 @@ use Rattle.rn_text.specs.Texts.{Text}
 use Rattle.rn_text.specs.declared.keywords.Keyword.{Keyword}
 use Rattle.rn_text.specs.declared.keywords.Keyword.TheVariants as w
 use Rattle.rn_xml.specs.Infoset.{Attribute}
-use Rattle.rn_translate.specs.inside.Terms.{Namespace, inherited, uri, Term, keyword, symbol, identifier, local, prefixed, any_of, prefix, datatype, literal, open_brace, close_brace, open_parenthesis, close_parenthesis, any_text}
-use Rattle.rn_translate.specs.inside.SchemaElements.{Context, value_of, trimmed, name_in, qualified}
+use Rattle.rn_translate.specs.Terms.{Namespace, inherited, uri, Term, keyword, symbol, identifier, local, prefixed, any_of, prefix, datatype, literal, open_brace, close_brace, open_parenthesis, close_parenthesis, any_text}
+use Rattle.rn_translate.specs.SchemaElements.{Context, value_of, trimmed, name_in, qualified}
 use Rattle.rn_translate.specs.declared.kinds.Kind.{Kind}
 use Rattle.rn_translate.specs.declared.kinds.Kind.TheVariants as k
 use Rattle.rn_translate.specs.declared.standing.Operator.{Operator}

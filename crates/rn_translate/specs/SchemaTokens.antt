@@ -9,11 +9,13 @@ use Rattle.rn_text.specs.Keywords.{spelling}
 use Rattle.rn_text.specs.Texts.{Text}
 use Rattle.rn_xml.specs.XmlTags.{xml_uri}
 use Rattle.rn_translate.specs.Spelled.{Spelled}
-use Rattle.rn_translate.specs.inside.Terms.{Namespace, inherited, uri, Term, keyword, symbol, identifier, local, prefixed, any_of, prefix, datatype, literal}
-use Rattle.rn_translate.specs.inside.Layouts.{is_same}
-use Rattle.rn_translate.specs.inside.UriTables.{xsd_uri}
-use Rattle.rn_translate.specs.inside.DraftTokens.{identifier_token, literal_tokens, one_token, word_token}
-use Rattle.rn_translate.specs.inside.PrintedTerms.{numbered_bytes}
+use Rattle.rn_translate.specs.Terms.{Namespace, inherited, uri, Term, keyword, symbol, identifier, local, prefixed, any_of, prefix, datatype, literal}
+use Rattle.rn_translate.specs.Layouts.{is_same}
+use Rattle.rn_translate.specs.TokenTexts.{identifier_token, literal_tokens, numbered_bytes, one_token, word_token}
+
+-- the library of XML Schema's datatypes (compact syntax, 2)
+abbrev pub xsd_uri : Text
+xsd_uri = codes "http://www.w3.org/2001/XMLSchema-datatypes"
 
 -- ---- the prefixes that are needed
 

@@ -1,6 +1,6 @@
 -- A child begins: its terms, and those that are left behind it.
 use Rattle.std.proofs.Common.{◌≡◌, ℕ, ◌+◌, ◌<◌, ◌≤◌, ◌^◌, Bool, true, false, List, [], ◌∷◌, ◌++◌, refl, sym, ap, ◌∙◌, subst, arith, append_assoc, Some, None}
-use Rattle.std.specs.Prelude.{◌≢◌, Option, slice_get, unwrap_or, bytes_eq, not, codes}
+use Rattle.std.specs.Prelude.{Option, slice_get, unwrap_or, bytes_eq, not, codes}
 use Rattle.std.proofs.lemmas.Bool.{cond-true}
 use Rattle.std.proofs.lemmas.Option.{same_Some}
 use Rattle.rn_text.specs.Texts.{Text}
@@ -9,23 +9,22 @@ use Rattle.rn_xml.specs.DocumentTrees.{AreChildren, name_of}
 use Rattle.rn_xml.specs.declared.document.XmlElement.{XmlElement}
 use Rattle.rn_xml.specs.declared.document.XmlText.{XmlText}
 use Rattle.rn_xml.specs.declared.document.XmlDocument.{XmlDocument}
-use Rattle.rn_translate.specs.inside.Terms.{Namespace, Term}
-use Rattle.rn_translate.specs.inside.SchemaElements.{Context, holds_text, is_foreign, is_part, kind_of, rng_uri, text_of, value_of}
-use Rattle.rn_translate.specs.inside.Layouts.{Layout, Place, Written, begins, layout, named}
-use Rattle.rn_translate.specs.inside.Translation.{before_child, behind_child, children, place_of, terms, written}
-use Rattle.rn_translate.specs.inside.Meanings.{AddsInScope, known, layout_meant, sign_terms, terms_meant}
-use Rattle.rn_translate.specs.inside.Walks.{AreNested, AreTextsPassed, IsContent, IsOutside, content_at, node_at}
+use Rattle.rn_translate.specs.Terms.{Namespace, Term}
+use Rattle.rn_translate.specs.SchemaElements.{Context, holds_text, is_foreign, is_part, kind_of, rng_uri, value_of}
+use Rattle.rn_translate.specs.Layouts.{Layout, Place, Written, begins, layout, named}
+use Rattle.rn_translate.specs.Translation.{before_child, behind_child, children, place_of, terms, written}
+use Rattle.rn_translate.specs.inside.Meanings.{AddsInScope, layout_meant, sign_terms, terms_meant}
+use Rattle.rn_translate.specs.inside.Walks.{AreTextsPassed, IsOutside, content_at, node_at}
 use Rattle.rn_translate.specs.inside.ElementsMeant.{HasInside, IsChildOf, IsInScope, IsMeant, attributes_at, declared_at}
-use Rattle.rn_translate.specs.inside.OpenLevels.{AreOpen, AreSound, IsLevel, IsLevelOf, IsWalked, OpenElement, scope_in, terms_left}
+use Rattle.rn_translate.specs.inside.OpenLevels.{AreOpen, IsLevel, IsLevelOf, IsWalked, OpenElement, scope_in, terms_left}
 use Rattle.rn_translate.specs.declared.kinds.Kind.{Kind}
 use Rattle.rn_translate.specs.declared.kinds.Kind.TheVariants as k
 use Rattle.rn_translate.specs.declared.translator.Level.{Level}
-use Rattle.rn_translate.specs.declared.translator.Open.{Open}
 use Rattle.rn_translate.specs.declared.translator.Translator.{Translator}
 use Rattle.rn_translate.proofs.ChildCounts.{foreign_name}
 use Rattle.rn_translate.proofs.ContentTexts.{content_text}
-use Rattle.rn_translate.proofs.TreeTexts.{child_next, child_outside}
-use Rattle.rn_translate.proofs.OpenSteps.{Innermost, changed, goes_on, innermost, same_document, terms_changed}
+use Rattle.rn_translate.proofs.Walking.TreeTexts.{child_next, child_outside}
+use Rattle.rn_translate.proofs.Walking.OpenSteps.{changed, goes_on, innermost, same_document, terms_changed}
 
 -- ---- how children are written doesn't depend on the text that an element begins with
 

@@ -1,5 +1,5 @@
 -- The root begins: all that a document holds is left.
-use Rattle.std.proofs.Common.{◌≡◌, ℕ, ◌+◌, ◌<◌, ◌≤◌, true, List, [], ◌∷◌, ◌++◌, length, refl, sym, ap, ◌∙◌, subst, arith, append_assoc, append-nil, Some}
+use Rattle.std.proofs.Common.{◌≡◌, ℕ, ◌<◌, ◌≤◌, true, [], ◌∷◌, ◌++◌, length, refl, sym, ap, ◌∙◌, subst, arith, append-nil, Some}
 use Rattle.std.specs.Prelude.{slice_get, codes}
 use Rattle.std.proofs.lemmas.Option.{same_Some, slice_get_within}
 use Rattle.rn_xml.specs.Infoset.{Node, element, Nodes}
@@ -7,13 +7,13 @@ use Rattle.rn_xml.specs.DocumentTrees.{AreChildren, HoldsRoot, name_of}
 use Rattle.rn_xml.specs.declared.document.XmlElement.{XmlElement}
 use Rattle.rn_xml.specs.declared.document.XmlText.{XmlText}
 use Rattle.rn_xml.specs.declared.document.XmlDocument.{XmlDocument}
-use Rattle.rn_translate.specs.inside.Terms.{Namespace, inherited, Term}
-use Rattle.rn_translate.specs.inside.SchemaElements.{holds_text, kind_of, nearest, text_of, value_of}
-use Rattle.rn_translate.specs.inside.Layouts.{Layout, Written, begins, layout}
-use Rattle.rn_translate.specs.inside.Translation.{children, default_of, outside, root_place, schema_terms, written}
+use Rattle.rn_translate.specs.Terms.{Namespace, inherited}
+use Rattle.rn_translate.specs.SchemaElements.{holds_text, kind_of, nearest, value_of}
+use Rattle.rn_translate.specs.Layouts.{Written, begins, layout}
+use Rattle.rn_translate.specs.Translation.{children, default_of, outside, root_place, schema_terms, written}
 use Rattle.rn_translate.specs.inside.Meanings.{AddsInScope, known, layout_meant, sign_terms, terms_meant, uri_meant}
 use Rattle.rn_translate.specs.inside.UriTables.{empty_uri}
-use Rattle.rn_translate.specs.inside.Walks.{IsContent, IsOutside, content_at}
+use Rattle.rn_translate.specs.inside.Walks.{IsOutside}
 use Rattle.rn_translate.specs.inside.ElementsMeant.{Comes, HasInside, IsInScope, IsMeant, IsPlaced, attributes_at, declared_at}
 use Rattle.rn_translate.specs.inside.OpenLevels.{AreOpen, AreSound, IsAtStart, IsLevelOf, IsWalked, OpenElement, terms_left}
 use Rattle.rn_translate.specs.declared.kinds.Kind.{Kind}
@@ -24,8 +24,8 @@ use Rattle.rn_translate.specs.declared.translator.Translator.{Translator}
 use Rattle.rn_translate.specs.declared.uris.Uri.{Uri}
 use Rattle.rn_translate.proofs.ContentTexts.{content_text}
 use Rattle.rn_translate.proofs.UriMeanings.{empty_meant}
-use Rattle.rn_translate.proofs.OpenSteps.{goes_on, terms_changed}
-use Rattle.rn_translate.proofs.ChildSteps.{level_meant, terms_of}
+use Rattle.rn_translate.proofs.Walking.OpenSteps.{goes_on, terms_changed}
+use Rattle.rn_translate.proofs.Walking.ChildSteps.{level_meant, terms_of}
 
 -- the default namespace is the one that the root gives
 pub root_default : (d : XmlDocument) (root : Node) (row : XmlElement) → HoldsRoot d root → slice_get d.elements.items 0 ≡ Some row

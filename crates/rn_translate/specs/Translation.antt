@@ -1,9 +1,9 @@
 -- The tokens of the compact text of a schema in the XML syntax (RELAX NG 2001, 3 and 4; RELAX NG Compact Syntax, 3 and appendix A).
 use Rattle.std.specs.Prelude.{ℕ, ◌+◌, true, false, ◌==◌, nat_le, if◌then◌else◌, List, [], ◌++◌, Option, Some, None, unwrap_or, codes}
 use Rattle.rn_xml.specs.Infoset.{Attribute, Binding, Node, element, characters, Nodes, no_nodes, more_nodes}
-use Rattle.rn_translate.specs.inside.Terms.{Namespace, inherited, uri, Term}
-use Rattle.rn_translate.specs.inside.SchemaElements.{Context, kind_of, is_part, count_of, has_except, text_of, value_of, inside_of, nearest}
-use Rattle.rn_translate.specs.inside.Layouts.{Place, Written, Layout, begins, layout}
+use Rattle.rn_translate.specs.Terms.{Namespace, inherited, uri, Term}
+use Rattle.rn_translate.specs.SchemaElements.{Context, kind_of, is_part, count_of, has_except, text_of, value_of, inside_of, nearest}
+use Rattle.rn_translate.specs.Layouts.{Place, Written, Layout, begins, layout}
 use Rattle.rn_translate.specs.declared.kinds.Kind.{Kind}
 use Rattle.rn_translate.specs.declared.kinds.Kind.TheVariants as k
 use Rattle.rn_translate.specs.declared.standing.Standing.{Standing}

@@ -3,9 +3,9 @@ use Rattle.std.proofs.Common.{◌≡◌, ℕ, ◌<◌, ◌≤◌, refl, arith}
 use Rattle.rn_xml.specs.Infoset.{Nodes}
 use Rattle.rn_xml.specs.DocumentTrees.{AreChildren}
 use Rattle.rn_xml.specs.declared.document.XmlDocument.{XmlDocument}
-use Rattle.rn_translate.specs.inside.SchemaElements.{count_of, has_except}
-use Rattle.rn_translate.specs.inside.Layouts.{Written, Layout}
-use Rattle.rn_translate.specs.inside.Translation.{children}
+use Rattle.rn_translate.specs.SchemaElements.{count_of, has_except}
+use Rattle.rn_translate.specs.Layouts.{Written, Layout}
+use Rattle.rn_translate.specs.Translation.{children}
 use Rattle.rn_translate.specs.inside.Walks.{AreNested, Skips, NextChild}
 
 -- ---- texts leave nothing

@@ -1,28 +1,27 @@
 -- The steps of the walk: what is left of the open elements behind each of them.
-use Rattle.std.proofs.Common.{◌≡◌, ℕ, ◌+◌, ◌<◌, ◌≤◌, Bool, true, false, cond, List, [], ◌∷◌, ◌++◌, refl, sym, ap, ◌∙◌, subst, arith, append_assoc, append-nil, Some, None}
-use Rattle.std.specs.Prelude.{Option, if◌then◌else◌, map, nat_lt, slice_get, unwrap_or, bytes_eq, not}
-use Rattle.std.proofs.lemmas.Bool.{cond-true, cond-false}
+use Rattle.std.proofs.Common.{◌≡◌, ℕ, ◌+◌, ◌<◌, ◌≤◌, Bool, true, false, List, [], ◌∷◌, ◌++◌, refl, sym, ap, ◌∙◌, subst, arith, append_assoc, append-nil, Some, None}
+use Rattle.std.specs.Prelude.{Option, if◌then◌else◌, nat_lt, slice_get, bytes_eq, not}
+use Rattle.std.proofs.lemmas.Bool.{cond-false}
 use Rattle.std.proofs.lemmas.List.{map-append, same_from_push}
 use Rattle.std.proofs.lemmas.Option.{same_Some}
-use Rattle.rn_xml.specs.Infoset.{Node, Nodes, no_nodes, more_nodes}
+use Rattle.rn_xml.specs.Infoset.{Node, Nodes, more_nodes}
 use Rattle.rn_xml.specs.XmlTags.{Scope}
 use Rattle.rn_xml.specs.DocumentTrees.{AreChildren, name_of}
 use Rattle.rn_xml.specs.declared.document.XmlElement.{XmlElement}
 use Rattle.rn_xml.specs.declared.document.XmlDocument.{XmlDocument}
-use Rattle.rn_text.specs.Texts.{Text}
-use Rattle.rn_translate.specs.inside.Terms.{Term}
-use Rattle.rn_translate.specs.inside.SchemaElements.{holds_text, is_foreign, is_part, kind_of, rng_uri, text_of}
-use Rattle.rn_translate.specs.inside.Layouts.{Layout, Written, begins, layout}
-use Rattle.rn_translate.specs.inside.Translation.{before_child, behind_child, children, place_of, terms, written}
+use Rattle.rn_translate.specs.Terms.{Term}
+use Rattle.rn_translate.specs.SchemaElements.{is_foreign, is_part, kind_of, rng_uri}
+use Rattle.rn_translate.specs.Layouts.{Layout, Written, layout}
+use Rattle.rn_translate.specs.Translation.{children}
 use Rattle.rn_translate.specs.inside.Meanings.{AddsInScope, known, layout_meant, sign_terms, terms_meant}
-use Rattle.rn_translate.specs.inside.Walks.{AreTextsPassed, IsOutside, TextsSkipped, content_at, node_at}
-use Rattle.rn_translate.specs.inside.ElementsMeant.{IsInScope, IsMeant, declared_at, attributes_at}
-use Rattle.rn_translate.specs.inside.OpenLevels.{AreOpen, AreSound, IsLevel, IsLevelOf, IsOpenOf, IsWalked, OpenElement, scope_in, terms_left}
+use Rattle.rn_translate.specs.inside.Walks.{AreTextsPassed, IsOutside, TextsSkipped, node_at}
+use Rattle.rn_translate.specs.inside.ElementsMeant.{IsInScope, declared_at}
+use Rattle.rn_translate.specs.inside.OpenLevels.{AreOpen, IsLevel, IsWalked, OpenElement, scope_in, terms_left}
 use Rattle.rn_translate.specs.declared.translator.Level.{Level}
 use Rattle.rn_translate.specs.declared.translator.Translator.{Translator}
 use Rattle.rn_translate.proofs.ChildCounts.{foreign_name, none_counted, none_left}
-use Rattle.rn_translate.proofs.TreeSteps.{skips_children}
-use Rattle.rn_translate.proofs.TreeTexts.{IsNext, child_next, child_outside, ends_behind, none_next}
+use Rattle.rn_translate.proofs.Walking.TreeSteps.{skips_children}
+use Rattle.rn_translate.proofs.Walking.TreeTexts.{child_next, child_outside, none_next}
 
 -- ---- the innermost level
 
