@@ -24,12 +24,6 @@ text_kept xs ys k q is =
     let got = got_text xs k q is in
     ap (option_map (λ (t : Bor Text). t.now)) (got_left xs ys k got.0 got.1) ∙ ap (λ x. Some x) got.2
 
-pub had_text : (old : Uris) (text : Bor Text) (k : ℕ) → AreIndexed old → index_of old text.now ≡ Some k → HasAdded old old text
-had_text old text k are is = record {
-  kept = λ i q e. e;
-  fresh = λ none. absurd (none-some k (sym none ∙ is));
-  indexed = are;
-  has = (k, is);
 }
 
 pub new_text : (old new : Uris) (text : Bor Text) (n : ℕ) → n ≡ length old.texts.items → AreIndexed old → index_of old text.now ≡ None → new.texts.items ≡ old.texts.items ++ text ∷ []

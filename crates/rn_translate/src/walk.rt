@@ -7,7 +7,7 @@ ghost use Rattle.rn_translate.specs.Terms.{Term as MeantTerm};
 ghost use Rattle.rn_translate.specs.SchemaElements.{holds_text, kind_of};
 ghost use Rattle.rn_translate.specs.Translation.{default_of, schema_terms};
 ghost use Rattle.rn_translate.specs.inside.Meanings.{known, terms_meant, uri_meant};
-ghost use Rattle.rn_translate.specs.inside.Walks.{AreNested, AreTextsPassed, IsOutside, TextsSkipped};
+ghost use Rattle.rn_translate.specs.inside.Walks.{AreTextsPassed, IsOutside, TextsSkipped};
 ghost use Rattle.rn_translate.specs.inside.OpenLevels.{AreSound, IsAtStart, IsWalked};
 
 use crate::document_parts::{
