@@ -24,8 +24,6 @@ text_kept xs ys k q is =
     let got = got_text xs k q is in
     ap (option_map (λ (t : Bor Text). t.now)) (got_left xs ys k got.0 got.1) ∙ ap (λ x. Some x) got.2
 
-}
-
 pub new_text : (old new : Uris) (text : Bor Text) (n : ℕ) → n ≡ length old.texts.items → AreIndexed old → index_of old text.now ≡ None → new.texts.items ≡ old.texts.items ++ text ∷ []
     → ((q : Text) → index_of new q ≡ update bytes_eq (index_of old) text.now (Some n) q) → HasAdded old new text
 new_text old new text n len are none items updates =
