@@ -1,4 +1,4 @@
-// The walk over the elements of a document, which collects the terms of its compact text.
+// What is collected of a document: the terms of its compact text, and how an element opens and ends.
 ghost use Rattle.std.specs.Prelude.{◌≡◌, ◌==◌, ◌<◌, ◌+◌, ◌-◌, ◌^◌, ◌++◌, ℕ, true, false, if◌then◌else◌, nat_le, List, IfOk, OnOk, Some, codes, slice_get};
 ghost use Rattle.rn_xml.specs.Infoset.{Nodes};
 ghost use Rattle.rn_xml.specs.XmlTags.{AreDistinct, Scope};
