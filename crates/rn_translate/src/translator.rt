@@ -112,6 +112,7 @@ pub(crate) struct Translator<'d, 'a> {
 
 impl<'d, 'a> Translator<'d, 'a> {
     /// Before the root of a document that was read from the source.
+    #[tactic(auto, using(crate::proofs::LeftScopes::none_declared))]
     pub fn new(
         alloc: Global,
         source: &'d str,
