@@ -13,6 +13,8 @@ OF_CONTRACT = re.compile(r"`(?:[\w:+]*-)?(?:returns|loop-|invariant_of-)|`[\w:+-
 # What is said of a function that has no open goal: it is proved, or what it calls stands on a hole. (A closure is proved where its callers give
 # what it asks, and is told so.)
 PROVED = re.compile(r"proved|no holes|depends on a hole in ")
+# What is said of a function whose goals have answers, but for some that the search must find.
+UNFOUND = re.compile(r"`search` did not prove ((?:`[\w:+-]+`(?:, | and )?)+)")
 # What is said of a function that calls some which aren't proved.
 CALLS = re.compile(r"it calls (`.*?`), which (?:is|are) not proved|a call of (`[^`]*`), which has no proof")
 
@@ -66,7 +68,7 @@ def told_of(lines, others):
         told = re.match(r"fn (\S+): (.*)", line)
         if told:
             function, answer = told.groups()
-            goals = own_goals(function, notes, errors, others)
+            goals = [*own_goals(function, notes, errors, others), *UNFOUND.findall(answer)]
             said[function] = Said(bool(PROVED.match(answer)) and not goals, called_in(answer), goals)
         is_open = re.match(r"note: src/\S+ it is not proved", line)
         notes = [*notes, line] if is_open else [] if told else notes
