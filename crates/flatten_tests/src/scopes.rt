@@ -66,6 +66,7 @@ c.start = empty
 @~~b
 start |= c-2.start 
 
+
 ====
 @a
 include 'b' { start = external 'c' }
