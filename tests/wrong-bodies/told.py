@@ -61,6 +61,13 @@ def own_goals(function, notes, errors, others):
     return [*(note for note in notes if not beside.search(note)), *at_proofs]
 
 
+def unfound_goals(function, answer, others):
+    """The goals of the contract that the search must find beside answers, and didn't. In a cycle of calls an answer speaks of all its functions."""
+    if others[function.rpartition("::")[2]]:
+        return []
+    return [goals for goals in UNFOUND.findall(answer) if OF_CONTRACT.search(goals)]
+
+
 def told_of(lines, others):
     """What the lines of a check tell of each function."""
     errors, said, notes = errors_of(lines), {}, []
@@ -68,7 +75,7 @@ def told_of(lines, others):
         told = re.match(r"fn (\S+): (.*)", line)
         if told:
             function, answer = told.groups()
-            goals = [*own_goals(function, notes, errors, others), *UNFOUND.findall(answer)]
+            goals = [*own_goals(function, notes, errors, others), *unfound_goals(function, answer, others)]
             said[function] = Said(bool(PROVED.match(answer)) and not goals, called_in(answer), goals)
         is_open = re.match(r"note: src/\S+ it is not proved", line)
         notes = [*notes, line] if is_open else [] if told else notes
